@@ -1,0 +1,30 @@
+ghost use Prim.Native.Nat.{_≤_};
+ghost use lib.ListN.{length, take};
+ghost use mathlib.Core.List.{[], _∷_};
+ghost use mathlib.Core.Path.{_≡_};
+
+// The values of a refusal: at most four numbers.
+#[derive(Clone, Copy)]
+pub struct Values {
+    items: [u128; 4],
+    count: usize,
+    ghost few: { count ≤ 4 },
+    ghost long: { length items ≡ 4 },
+}
+
+impl Values {
+    pub fn one(first: u128) -> Self
+        ensures { λ r. ⌜ take (r .count) (r .items) ≡ first ∷ [] ⌝ }
+    {
+        Values {
+            items: [first, 0, 0, 0],
+            count: 1,
+        }
+    }
+
+    pub fn as_slice(&self) -> &[u128]
+        ensures { λ r. ⌜ now r ≡ take (now (self .entry) .count) (now (self .entry) .items) ⌝ }
+    {
+        &self.items[0..self.count]
+    }
+}

@@ -1,0 +1,21 @@
+ghost use Prim.Native.Nat.{_≤_};
+ghost use mathlib.Core.Path.{_≡_};
+
+// How many bits a field has: at most 16.
+#[derive(Clone, Copy)]
+pub struct Width {
+    bits: u8,
+    ghost few: { bits ≤ 16 },
+}
+
+impl Width {
+    pub const TWO: Width = Width { bits: 2 };
+
+    pub const FOUR: Width = Width { bits: 4 };
+
+    pub fn bits(self) -> u8
+        ensures { λ r. ⌜ r ≡ self .bits ⌝ }
+    {
+        self.bits
+    }
+}
