@@ -17,9 +17,9 @@ use Rattle.bits.specs.Bits.{number, numeral, bits-of, bytes-for, packed, AreBy
 use Rattle.bits.specs.Fields.{number-at, field, zeros, fill-end, ending}
 use Rattle.bits.specs.declared.refusal.Refusal.{Refusal}
 use Rattle.bits.specs.declared.refusal.Refusal.the-variants.{Ended, Filled}
-use Rattle.bits.proofs.Numbers.{length-numeral, number-numeral, numeral-number, length-bits-of}
+use Rattle.bits.proofs.Numbers.{number-at-below, number-numeral, numeral-number, length-bits-of}
 use Rattle.bits.proofs.Packing.{bits-of-packed, only-packed}
-pub use Rattle.bits.proofs.Numbers.{number-at-below}
+pub use Rattle.bits.proofs.Numbers.{length-numeral}
 pub use Rattle.bits.proofs.Packing.{length-put, put-append, put-holds, length-packed}
 
 -- the bits xs stand at the place p
@@ -79,7 +79,7 @@ module _ (bits : List Bool) (p : ℕ) where
       let fits : p + w ≤ length bits = omega (arith, h .fits) in
       rw spelled (grind (arith, tells))
 
-  pub field-stands : (w n q : ℕ) → field bits p w ≡ Ok (n, q) → (q ≡ p + w) × Stands bits p (numeral w n)
+  pub field-stands : (w n q : ℕ) → field bits p w ≡ Ok (n, q) → (q ≡ p + w) × Stands bits p (numeral w n) × (n < 2 ^ w)
   unfolding number-at
   field-stands w n q h =
       let got = passed (leb (p + w) (length bits)) _ (n, q) (Ended (length bits)) h in
@@ -88,7 +88,8 @@ module _ (bits : List Bool) (p : ℕ) where
       let next : p + w ≡ q = ap (λ r. r .1) (got .1) in
       let long : length (take w (drop p bits)) ≡ w = simp (length-take, length-drop) (omega arith) in
       let same : numeral w n ≡ take w (drop p bits) = rw (← spelled) (ap (λ k. numeral k (number (take w (drop p bits)))) (sym long) ∙ numeral-number (take w (drop p bits))) in
-      (sym next, record { fits = omega (arith, length-numeral w n); here = ap (λ k. take k (drop p bits)) (length-numeral w n) ∙ sym same })
+      let small : n < 2 ^ w = rw (← spelled) (number-at-below bits p w) in
+      (sym next, record { fits = omega (arith, length-numeral w n); here = ap (λ k. take k (drop p bits)) (length-numeral w n) ∙ sym same }, small)
 
 -- packed bits stand at the start of their bytes, and the layout ends after them
 pub packed-stands : (xs : List Bool) → Stands (bits-of (packed xs)) 0 xs

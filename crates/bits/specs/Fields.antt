@@ -24,6 +24,21 @@ abbrev pub next-place : {A E : Type 0} → Result (A × ℕ) E → ℕ → ℕ
 next-place (Ok r) p = r .1
 next-place (Err e) p = p
 
+-- one read after another: what was read and the next place go to the next read, and a refusal ends all
+abbrev pub followed : {A B E : Type 0} → Result (A × ℕ) E → (A → ℕ → Result B E) → Result B E
+followed (Ok r) next = next (r .0) (r .1)
+followed (Err e) next = Err e
+
+-- what comes after a test
+abbrev pub after : {A B E : Type 0} → Result A E → Result B E → Result B E
+after (Ok r) next = next
+after (Err e) next = Err e
+
+-- a refusal of this crate among those of a layout
+abbrev pub refused-as : {A E F : Type 0} → (E → F) → Result A E → Result A F
+refused-as f (Ok r) = Ok r
+refused-as f (Err e) = Err (f e)
+
 -- how many zero bits stand before the first 1
 abbrev pub zeros : List Bool → ℕ
 zeros [] = 0
