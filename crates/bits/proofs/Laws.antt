@@ -1,5 +1,5 @@
 -- What the layouts above this crate rest on: bits that stand at a place, fields read there, the end of a layout, and bits put into a buffer. Assumes nothing.
-use mathlib.Core.Path.{_≡_, refl, sym, ap, _∙_}
+use mathlib.Core.Path.{_≡_, refl, sym, ap, subst, _∙_}
 use mathlib.Core.Bool.{Bool, true, false, cond}
 use mathlib.Core.List.{List, [], _∷_, _++_}
 use Prim.Native.Nat.{ℕ, zero, suc, _+_, _-_, _*_, _/_, _%_, _^_, _≤_, _<_}
@@ -9,18 +9,20 @@ use lib.Dec.{leb, ltb}
 use lib.ListN.{length, take, drop, replicate, length-append, length-take, length-drop, take-append-drop}
 use lib.Seq.{take-add}
 use Rattle.std.proofs.shelf.Lists.{take-all, take-at, drop-at, drop-drop, take-append-le, drop-append-le, length-replicate, take-take, drop-take, length-take-le}
-use Rattle.std.proofs.shelf.Tests.{leb-true, ltb-false}
+use Rattle.std.proofs.shelf.Tests.{leb-true, le-leb, ltb-false, cond-true, false≢true}
+use Rattle.std.specs.Results.{isOk}
 use Rattle.std.proofs.shelf.Ways.{tells}
 use Rattle.std.specs.declared.result.Result.{Result}
 use Rattle.std.specs.declared.result.Result.the-variants.{Ok, Err}
-use Rattle.bits.specs.Bits.{number, numeral, bits-of, bytes-for, packed, AreBytes}
-use Rattle.bits.specs.Fields.{number-at, field, zeros, fill-end, ending}
+use Rattle.bits.specs.Bits.{number, numeral, bits-of, bytes-for, packed, AreBytes, put, holding}
+use Rattle.bits.specs.Fields.{number-at, field, zeros, fill-end, ending, written-field, Wrote, Filled}
+use Rattle.bits.specs.declared.refusal.TooShort.{TooShort}
 use Rattle.bits.specs.declared.refusal.Refusal.{Refusal}
-use Rattle.bits.specs.declared.refusal.Refusal.the-variants.{Ended, Filled}
-use Rattle.bits.proofs.Numbers.{number-at-below, number-numeral, numeral-number, length-bits-of}
-use Rattle.bits.proofs.Packing.{bits-of-packed, only-packed}
+use Rattle.bits.specs.declared.refusal.Refusal.the-variants.{Ended, Trailing}
+use Rattle.bits.proofs.Numbers.{length-numeral, number-at-below, number-numeral, numeral-number, length-bits-of}
+use Rattle.bits.proofs.Packing.{bits-of-packed, only-packed, length-put, put-append, put-holds}
 pub use Rattle.bits.proofs.Numbers.{length-numeral}
-pub use Rattle.bits.proofs.Packing.{length-put, put-append, put-holds, length-packed}
+pub use Rattle.bits.proofs.Packing.{length-packed}
 
 -- the bits xs stand at the place p
 pub record Stands (bits : List Bool) (p : ℕ) (xs : List Bool) : Type 0 where
@@ -50,6 +52,11 @@ zeros-all (false ∷ xs) h = ap (λ l. false ∷ l) (zeros-all xs (omega arith))
 zeros-of-zeros : (k : ℕ) → zeros (replicate k false) ≡ k
 zeros-of-zeros zero = refl
 zeros-of-zeros (suc k) = ap suc (zeros-of-zeros k)
+
+-- a write that has room is not refused
+refused-room : (e : TooShort) (n m room : ℕ) → n ≤ room → Err e ≡ cond (leb n room) (Ok n) (Err (record { needed = m })) → ⊥
+refused-room e n m room fits h =
+    let z : _≡_ {A = ℕ} 0 1 = cc (h ∙ cond-true (leb n room) (Ok n) (Err (record { needed = m })) (le-leb n room fits)) in omega arith
 
 module _ (bits : List Bool) (p : ℕ) where
   pub stands-none : p ≤ length bits → Stands bits p []
@@ -128,3 +135,50 @@ packed-only bytes xs small stands ends =
     let zero-bits : drop n bits ≡ replicate (length (drop n bits)) false = zeros-all (drop n bits) (omega (arith, ap zeros rest)) in
     let same : bits ≡ xs ++ replicate (length (drop n bits)) false = sym (take-append-drop n bits) ∙ rw (← zero-bits, stands .here) refl in
     only-packed bytes xs (length (drop n bits)) small (omega arith) same
+
+-- one field written
+pub wrote-field : (w value p : ℕ) (bytes : List ℕ) (q : ℕ) (bytes′ : List ℕ) (r : Result ℕ TooShort)
+    → r ≡ written-field (length bytes) p w → q ≡ cond (isOk r) (p + w) p → bytes′ ≡ cond (isOk r) (put p (numeral w value) bytes) bytes
+    → Wrote (isOk r) (numeral w value) p bytes q bytes′
+wrote-field w value p bytes q bytes′ (Ok x) told next held =
+    record { long = ap length held ∙ length-put p (numeral w value) bytes; put-there = λ _. (refl, next ∙ ap (λ k. p + k) (sym (length-numeral w value)), held) }
+wrote-field w value p bytes q bytes′ (Err e) told next held =
+    record {
+      long = ap length held;
+      put-there = λ room. absurd (refused-room e (p + w) (bytes-for (p + w)) (8 * length bytes) (omega (arith, length-numeral w value)) told);
+    }
+
+-- nothing written
+pub wrote-none : (p : ℕ) (bytes : List ℕ) → Wrote true [] p bytes p bytes
+unfolding put
+wrote-none p bytes = record { long = refl; put-there = λ _. (refl, omega arith, refl) }
+
+-- the same bits by another name
+pub wrote-as : {ok : Bool} {xs ys : List Bool} {p q : ℕ} {a b : List ℕ} → xs ≡ ys → Wrote ok xs p a q b → Wrote ok ys p a q b
+wrote-as {ok} {p = p} {q = q} {a = a} {b = b} same h = subst (λ l. Wrote ok l p a q b) same h
+
+-- one write after another
+pub wrote-then : {ok : Bool} {xs ys : List Bool} {p q r : ℕ} {a b c : List ℕ} → Wrote true xs p a q b → Wrote ok ys q b r c → Wrote ok (xs ++ ys) p a r c
+wrote-then {ok} {xs} {ys} {p} {q} {r} {a} {b} {c} h k =
+    record { long = k .long ∙ h .long; put-there = both }
+  where
+    both : p + length (xs ++ ys) ≤ 8 * length a → (ok ≡ true) × (r ≡ p + length (xs ++ ys)) × (c ≡ put p (xs ++ ys) a)
+    both room =
+        let all = length-append xs ys in
+        let first = h .put-there (omega arith) in
+        let second = k .put-there (omega (arith, h .long, first .1)) in
+        (second .0, omega (arith, first .1, second .1), second .2 ∙ rw (first .1, first .2) (sym (put-append p xs ys a)))
+
+-- a refused write refuses all
+pub wrote-refused : {xs : List Bool} (ys : List Bool) {p q : ℕ} {a b : List ℕ} → Wrote false xs p a q b → Wrote false (xs ++ ys) p a q b
+wrote-refused {xs} ys {p} {q} {a} {b} h =
+    record { long = h .long; put-there = λ room. absurd (false≢true (h .put-there (omega (arith, length-append xs ys)) .0)) }
+
+-- all that was written from the start of a buffer
+pub wrote-all : {ok : Bool} {xs : List Bool} {p q : ℕ} {a b : List ℕ} → p ≡ 0 → Wrote ok xs p a q b → Filled ok xs a b
+wrote-all {ok} {xs} {p} {q} {a} {b} start h = record { held = all }
+  where
+    all : bytes-for (length xs) ≤ length a → (ok ≡ true) × (b ≡ holding xs a)
+    all room =
+        let there = h .put-there (omega arith) in
+        (there .0, there .2 ∙ ap (λ k. put k xs a) start ∙ put-holds xs a room)

@@ -1,14 +1,15 @@
 -- What reading and writing a field answer. A place counts bits from 0. Assumes nothing.
 use mathlib.Core.Bool.{Bool, true, false, cond}
 use mathlib.Core.List.{List, [], _∷_}
-use Prim.Native.Nat.{ℕ, suc, _+_, _-_, _*_, _%_}
+use mathlib.Core.Path.{_≡_}
+use Prim.Native.Nat.{ℕ, suc, _+_, _-_, _*_, _%_, _≤_}
 use lib.Dec.{leb, ltb}
 use lib.ListN.{length, take, drop}
 use Rattle.std.specs.declared.result.Result.{Result}
 use Rattle.std.specs.declared.result.Result.the-variants.{Ok, Err}
-use Rattle.bits.specs.Bits.{number, bytes-for}
+use Rattle.bits.specs.Bits.{number, bytes-for, put, holding}
 use Rattle.bits.specs.declared.refusal.Refusal.{Refusal}
-use Rattle.bits.specs.declared.refusal.Refusal.the-variants.{Ended, Filled}
+use Rattle.bits.specs.declared.refusal.Refusal.the-variants.{Ended, Trailing}
 use Rattle.bits.specs.declared.refusal.TooShort.{TooShort}
 
 -- the number that w bits from a place on spell
@@ -51,8 +52,17 @@ fill-end bits p = p + zeros (take ((8 - p % 8) % 8) (drop p bits))
 
 -- the layout ends before p: zero bits fill the byte, and no byte follows
 abbrev pub ending : List Bool → ℕ → Result (Unit {0}) Refusal
-ending bits p = cond (ltb (fill-end bits p) (length bits)) (Err (Filled (fill-end bits p))) (Ok tt)
+ending bits p = cond (ltb (fill-end bits p) (length bits)) (Err (Trailing (fill-end bits p))) (Ok tt)
 
 -- a field of w bits written at a place of a buffer of so many bytes: the place of the next bit
 abbrev pub written-field : ℕ → ℕ → ℕ → Result ℕ TooShort
 written-field len p w = cond (leb (p + w) (8 * len)) (Ok (p + w)) (Err (record { needed = bytes-for (p + w) }))
+
+-- writing bits from the place p on leaves the writer at q; where there is room for them, the write is accepted, they are put, and q is the place after them
+pub record Wrote (accepted : Bool) (bits : List Bool) (p : ℕ) (bytes : List ℕ) (q : ℕ) (bytes′ : List ℕ) : Type 0 where
+  pub long : length bytes′ ≡ length bytes
+  pub put-there : p + length bits ≤ 8 * length bytes → (accepted ≡ true) × (q ≡ p + length bits) × (bytes′ ≡ put p bits bytes)
+
+-- writing bits from the start of a buffer; where there is room, the write is accepted and the buffer holds them
+pub record Filled (accepted : Bool) (bits : List Bool) (old new : List ℕ) : Type 0 where
+  pub held : bytes-for (length bits) ≤ length old → (accepted ≡ true) × (new ≡ holding bits old)

@@ -55,7 +55,7 @@ impl<'a> Reader<'a> {
     {
         let place = self.fill_end();
         if place < self.end() {
-            return Err(Refusal::Filled { place });
+            return Err(Refusal::Trailing { place });
         }
         Ok(())
     }

@@ -1,7 +1,8 @@
 ghost use lib.ListN.{take};
 ghost use mathlib.Core.Path.{_≡_};
-ghost use Rattle.bits.specs.Refusals.{number-of, values-of, short-values};
-use crate::values::Values;
+ghost use Rattle.bits.specs.Refusals.{number-of, values-of, short-number, short-values};
+use crate::report::Report;
+use crate::report::Values;
 
 // Why bytes cannot be read as a layout's fields.
 #[derive(Clone, Copy, Debug, PartialEq, Eq)]
@@ -9,24 +10,21 @@ pub enum Refusal {
     // The bytes end inside a field; the place is that of their end.
     Ended { place: u128 },
     // A 1 in the fill, or a further byte; the place is the first such.
-    Filled { place: u128 },
+    Trailing { place: u128 },
 }
 
 impl Refusal {
-    pub fn number(&self) -> u8
-        ensures { λ r. ⌜ r ≡ number-of (now (self .entry)) ⌝ }
+    pub fn report(&self) -> Report
+        ensures number { λ r. ⌜ r .number ≡ number-of (now (self .entry)) ⌝ }
+        ensures values { λ r. ⌜ take (r .values .count) (r .values .items) ≡ values-of (now (self .entry)) ⌝ }
     {
-        match self {
-            Refusal::Ended { .. } => 1,
-            Refusal::Filled { .. } => 7,
-        }
-    }
-
-    pub fn values(&self) -> Values
-        ensures { λ r. ⌜ take (r .count) (r .items) ≡ values-of (now (self .entry)) ⌝ }
-    {
-        match self {
-            Refusal::Ended { place } | Refusal::Filled { place } => Values::one(*place),
+        let (number, place) = match self {
+            Refusal::Ended { place } => (1, *place),
+            Refusal::Trailing { place } => (7, *place),
+        };
+        Report {
+            number,
+            values: Values::one(place),
         }
     }
 }
@@ -38,15 +36,13 @@ pub struct TooShort {
 }
 
 impl TooShort {
-    pub fn number(&self) -> u8
-        ensures { λ r. ⌜ r ≡ 20 ⌝ }
+    pub fn report(&self) -> Report
+        ensures number { λ r. ⌜ r .number ≡ short-number (now (self .entry)) ⌝ }
+        ensures values { λ r. ⌜ take (r .values .count) (r .values .items) ≡ short-values (now (self .entry)) ⌝ }
     {
-        20
-    }
-
-    pub fn values(&self) -> Values
-        ensures { λ r. ⌜ take (r .count) (r .items) ≡ short-values (now (self .entry)) ⌝ }
-    {
-        Values::one(self.needed)
+        Report {
+            number: 20,
+            values: Values::one(self.needed),
+        }
     }
 }

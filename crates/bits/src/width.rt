@@ -13,7 +13,7 @@ impl Width {
 
     pub const FOUR: Width = Width { bits: 4 };
 
-    pub fn bits(self) -> u8
+    pub(crate) fn bits(self) -> u8
         ensures { λ r. ⌜ r ≡ self .bits ⌝ }
     {
         self.bits

@@ -5,7 +5,7 @@ ghost use mathlib.Core.Bool.{cond};
 ghost use mathlib.Core.Path.{_≡_};
 ghost use Rattle.std.specs.Results.{isOk};
 ghost use Rattle.bits.specs.Bits.{numeral, put as put-bits, put-bit, with-bit};
-ghost use Rattle.bits.specs.Fields.{written-field};
+ghost use Rattle.bits.specs.Fields.{written-field, Wrote};
 use crate::refusal::TooShort;
 use crate::width::Width;
 
@@ -26,11 +26,23 @@ impl<'a> Writer<'a> {
         Writer { bytes, place: 0 }
     }
 
-    // One field more; the place of the bit after it.
+    // One field more: the lowest bits of the value. The answer is the place of the bit after it.
     pub fn put(&mut self, value: u16, width: Width) -> Result<u128, TooShort>
         ensures value { λ r. ⌜ r ≡ written-field (length (now (now (self .entry) .bytes))) (now (self .entry) .place) (width .bits) ⌝ }
         ensures place { λ r. ⌜ now (self .exit) .place ≡ cond (isOk r) (now (self .entry) .place + width .bits) (now (self .entry) .place) ⌝ }
         ensures bytes { λ r. ⌜ now (now (self .exit) .bytes) ≡ cond (isOk r) (put-bits (now (self .entry) .place) (numeral (width .bits) value) (now (now (self .entry) .bytes))) (now (now (self .entry) .bytes)) ⌝ }
+        ensures wrote { λ r. ⌜ Wrote (isOk r) (numeral (width .bits) value) (now (self .entry) .place) (now (now (self .entry) .bytes)) (now (self .exit) .place) (now (now (self .exit) .bytes)) ⌝ }
+        ensures name { λ r. ⌜ name (now (self .exit) .bytes) ≡ name (now (self .entry) .bytes) ⌝ }
+    {
+        self.put_field(value, width)
+    }
+
+    // The same, with its proof by hand.
+    fn put_field(&mut self, value: u16, width: Width) -> Result<u128, TooShort>
+        ensures value { λ r. ⌜ r ≡ written-field (length (now (now (self .entry) .bytes))) (now (self .entry) .place) (width .bits) ⌝ }
+        ensures place { λ r. ⌜ now (self .exit) .place ≡ cond (isOk r) (now (self .entry) .place + width .bits) (now (self .entry) .place) ⌝ }
+        ensures bytes { λ r. ⌜ now (now (self .exit) .bytes) ≡ cond (isOk r) (put-bits (now (self .entry) .place) (numeral (width .bits) value) (now (now (self .entry) .bytes))) (now (now (self .entry) .bytes)) ⌝ }
+        ensures wrote { λ r. ⌜ Wrote (isOk r) (numeral (width .bits) value) (now (self .entry) .place) (now (now (self .entry) .bytes)) (now (self .exit) .place) (now (now (self .exit) .bytes)) ⌝ }
         ensures name { λ r. ⌜ name (now (self .exit) .bytes) ≡ name (now (self .entry) .bytes) ⌝ }
     {
         let place = self.place;

@@ -14,7 +14,7 @@ use Rattle.plan.specs.Tree.{Tree, end, order, look, nodes-of, size}
 use Rattle.plan.specs.declared.node.Node.{Node}
 use Rattle.plan.specs.declared.node.Node.the-variants.{End, Order, Look}
 use Rattle.plan.specs.declared.refusal.Refusal.{Refusal}
-use Rattle.plan.proofs.Trees.{plan-step}
+use Rattle.plan.proofs.TreeBits.{plan-step}
 
 module _ (bits : List Bool) (d n p : ℕ) (answer : Result (Unit {0}) Refusal) (before later : List Node) (place : ℕ) where
   -- the plan's reading, once its first node's is known

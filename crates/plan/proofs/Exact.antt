@@ -5,7 +5,7 @@ use mathlib.Core.List.{List, [], _∷_, _++_}
 use Prim.Native.Nat.{ℕ, zero, suc, _+_, _-_, _≤_, _<_}
 use native.Mathlib.Omega.{arith}
 use lib.Dec.{eqb}
-use lib.ListN.{length, length-append}
+use lib.ListN.{length, length-append, length-take}
 use Rattle.std.proofs.shelf.Tests.{eqb-true}
 use Rattle.std.specs.declared.result.Result.{Result}
 use Rattle.std.specs.declared.result.Result.the-variants.{Ok, Err}
@@ -13,12 +13,14 @@ use Rattle.bits.specs.Bits.{numeral, bits-of, packed, AreBytes}
 use Rattle.bits.specs.Fields.{ending, followed, after, refused-as}
 use Rattle.bits.proofs.Laws.{Stands, stands-split, stands-join, packed-stands, packed-ends, packed-only, length-numeral}
 use Rattle.plan.specs.Layout.{plan-field, plan-at, ended, edition-one, read-plan, tree-bits, plan-bits, written}
+use Rattle.plan.specs.Plans.{plan-tree}
 use Rattle.plan.specs.Promises.{ReadsExactly, WrittenOnce}
 use Rattle.plan.specs.Tree.{Tree, Lawful}
+use Rattle.plan.specs.declared.record.Plan.{Plan}
 use Rattle.plan.specs.declared.refusal.Refusal.the-variants.{Unread, Edition}
-use Rattle.plan.proofs.Nodes.{plan-field-reads, plan-field-stands}
+use Rattle.plan.proofs.NodeBits.{plan-field-reads, plan-field-stands}
 use Rattle.plan.proofs.Outcomes.{both-read, test-passed, lifted-read, same-answer, passed}
-use Rattle.plan.proofs.Trees.{Grew, plan-read, plan-reads}
+use Rattle.plan.proofs.TreeBits.{Grew, plan-read, plan-reads}
 
 -- what was read stands in the bytes, whole, and the layout ends after it
 record Whole (bytes : List ℕ) (t : Tree) : Type 0 where
@@ -78,3 +80,15 @@ reads-exactly bytes small =
 pub written-once : (t : Tree) → Lawful t → WrittenOnce t
 written-once t lawful =
     record { back = written-reads t lawful; only = λ bytes small h. only-written bytes small t h .1 }
+
+-- a record's plan is lawful
+pub plan-lawful : (p : Plan) → Lawful (plan-tree p)
+plan-lawful p =
+    record {
+      shallow = p .shallow;
+      few = rw (p .whole) (simp length-take (omega (arith, p .few)));
+      named = p .named;
+    }
+
+pub plan-once : (p : Plan) → WrittenOnce (plan-tree p)
+plan-once p = written-once (plan-tree p) (plan-lawful p)

@@ -1,6 +1,7 @@
 pub mod Adding
 pub mod Exact
-pub mod Nodes
+pub mod Joins
+pub mod NodeBits
 pub mod Outcomes
-pub mod Trees
+pub mod TreeBits
 pub mod WaysOut

@@ -19,7 +19,7 @@ use Rattle.plan.specs.declared.node.Node.{Node}
 use Rattle.plan.specs.declared.refusal.Refusal.{Refusal}
 use Rattle.plan.specs.declared.refusal.Refusal.the-variants.{Unread, Edition}
 use Rattle.plan.proofs.Exact.{read-lawful}
-use Rattle.plan.proofs.Trees.{tree-of-nodes}
+use Rattle.plan.proofs.TreeBits.{tree-of-nodes}
 
 module _ (bytes : List ℕ) where
   pub edition-unread : (e : Refusal) → plan-field (bits-of bytes) 0 4 ≡ Err e → read-plan bytes ≡ Err e

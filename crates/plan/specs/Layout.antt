@@ -2,12 +2,14 @@
 use mathlib.Core.Bool.{Bool, cond}
 use mathlib.Core.List.{List, [], _∷_, _++_}
 use Prim.Native.Nat.{ℕ, zero, suc, _+_}
-use lib.Dec.{eqb}
+use lib.Dec.{eqb, leb}
+use lib.ListN.{length}
 use Rattle.std.specs.Joined.{joined}
 use Rattle.std.specs.declared.result.Result.{Result}
 use Rattle.std.specs.declared.result.Result.the-variants.{Ok, Err}
 use Rattle.bits.specs.Bits.{numeral, bits-of, packed}
 use Rattle.bits.specs.Fields.{field, ending, followed, after, refused-as}
+use Rattle.bits.specs.declared.refusal.TooShort.{TooShort}
 use Rattle.plan.specs.Tree.{Tree, end, order, look, nodes-of, size}
 use Rattle.plan.specs.declared.node.Node.{Node}
 use Rattle.plan.specs.declared.node.Node.the-variants.{End, Order, Look}
@@ -79,3 +81,7 @@ plan-bits t = numeral 4 1 ++ tree-bits t
 
 unfoldable pub written : Tree → List ℕ
 written t = packed (plan-bits t)
+
+-- the answer to writing a plan into a buffer of so many bytes: how many it takes, or that they are too few
+abbrev pub written-to : Tree → ℕ → Result ℕ TooShort
+written-to t len = cond (leb (length (written t)) len) (Ok (length (written t))) (Err (record { needed = length (written t) }))

@@ -3,7 +3,8 @@ ghost use mathlib.Core.Path.{_≡_};
 ghost use Rattle.plan.specs.Refusals.{number-of, values-of};
 ghost use Rattle.plan.specs.declared.refusal.Refusal.the-variants.{Unread};
 use bits::refusal::RefusalDebug as _;
-use bits::values::Values;
+use bits::report::Report;
+use bits::report::Values;
 
 // Why bytes are no plan.
 #[derive(Clone, Copy, Debug)]
@@ -27,25 +28,19 @@ pub impl From<bits::refusal::Refusal> for Refusal as FromBits {
 }
 
 impl Refusal {
-    pub fn number(&self) -> u8
-        ensures { λ r. ⌜ r ≡ number-of (now (self .entry)) ⌝ }
+    pub fn report(&self) -> Report
+        ensures number { λ r. ⌜ r .number ≡ number-of (now (self .entry)) ⌝ }
+        ensures values { λ r. ⌜ take (r .values .count) (r .values .items) ≡ values-of (now (self .entry)) ⌝ }
     {
-        match self {
-            Refusal::Unread(refusal) => refusal.number(),
-            Refusal::Edition { .. } => 2,
-            Refusal::Tag { .. } => 3,
-            Refusal::TooLarge { .. } => 8,
-        }
-    }
-
-    pub fn values(&self) -> Values
-        ensures { λ r. ⌜ take (r .count) (r .items) ≡ values-of (now (self .entry)) ⌝ }
-    {
-        match self {
-            Refusal::Unread(refusal) => refusal.values(),
-            Refusal::Edition { place } => Values::one(*place),
-            Refusal::Tag { place } => Values::one(*place),
-            Refusal::TooLarge { place } => Values::one(*place),
+        let (number, place) = match self {
+            Refusal::Unread(refusal) => return refusal.report(),
+            Refusal::Edition { place } => (2, *place),
+            Refusal::Tag { place } => (3, *place),
+            Refusal::TooLarge { place } => (8, *place),
+        };
+        Report {
+            number,
+            values: Values::one(place),
         }
     }
 }

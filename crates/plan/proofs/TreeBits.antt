@@ -18,12 +18,9 @@ use Rattle.plan.specs.Tree.{Tree, end, order, look, nodes-of, size, depth, sma
 use Rattle.plan.specs.declared.node.Node.{Node}
 use Rattle.plan.specs.declared.node.Node.the-variants.{End, Order, Look}
 use Rattle.plan.specs.declared.refusal.Refusal.{Refusal}
-use Rattle.plan.proofs.Nodes.{Fits, Read, node-read, node-reads}
+use Rattle.plan.proofs.Joins.{joined-append}
+use Rattle.plan.proofs.NodeBits.{Fits, Read, node-read, node-reads}
 use Rattle.plan.proofs.Outcomes.{both-read, same-answer}
-
-pub joined-append : {X A : Type 0} (f : X → List A) (xs ys : List X) → joined f (xs ++ ys) ≡ joined f xs ++ joined f ys
-joined-append f [] ys = refl
-joined-append f (x ∷ xs) ys = ap (λ l. f x ++ l) (joined-append f xs ys) ∙ sym (append-assoc (f x) (joined f xs) (joined f ys))
 
 -- the bits of a plan, part by part
 end-bits : tree-bits end ≡ node-bits End

@@ -28,3 +28,10 @@ impl Values {
         &self.items[0..self.count]
     }
 }
+
+// What a refusal says: its number and its values.
+#[derive(Clone, Copy)]
+pub struct Report {
+    pub number: u8,
+    pub values: Values,
+}
