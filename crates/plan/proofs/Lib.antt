@@ -4,4 +4,5 @@ pub mod Joins
 pub mod NodeBits
 pub mod Outcomes
 pub mod TreeBits
+pub mod Ways
 pub mod WaysOut
