@@ -2,6 +2,8 @@ ghost use Prim.Native.Nat.{_≤_};
 ghost use lib.ListN.{length, take};
 ghost use mathlib.Core.List.{[], _∷_};
 ghost use mathlib.Core.Path.{_≡_};
+use std::fmt;
+use std::fmt::Formatter;
 
 // The values of a refusal: at most four numbers.
 #[derive(Clone, Copy)]
@@ -34,4 +36,16 @@ impl Values {
 pub struct Report {
     pub number: u8,
     pub values: Values,
+}
+
+// The number and the values, singly spaced.
+pub impl fmt::Display for Report as ReportDisplay {
+    fn fmt<W: fmt::Write>(&self, f: &mut Formatter<W>) -> fmt::Result {
+        let number = self.number;
+        write!(f, "{number}")?;
+        for value in self.values.as_slice() {
+            write!(f, " {value}")?;
+        }
+        Ok(())
+    }
 }

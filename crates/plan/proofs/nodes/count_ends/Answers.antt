@@ -20,8 +20,8 @@ loop-node-again c =
     let node = getD (c .args .nodes .now) (c .loop-node .node-index) End in
     let more = end-count-more (c .args .nodes .now) (c .loop-node .node-index) (c .loop-node-test .taken) in
     elim (c .match-node .came) [
-      in-End w ↦ let one : end-count (node ∷ []) ≡ 1 = rw (w .in-End .is) in omega (arith, w .count-is)
-    | in-rest w ↦ let none : end-count (node ∷ []) ≡ 0 = others node (w .in-rest .not-End) in omega (arith, w .count-is)
+      | in-End w ↦ let one : end-count (node ∷ []) ≡ 1 = rw (w .in-End .is) in omega (arith, w .count-is)
+      | in-rest w ↦ let none : end-count (node ∷ []) ≡ 0 = others node (w .in-rest .not-End) in omega (arith, w .count-is)
     ]
 
 pub returns : need.returns

@@ -1,0 +1,39 @@
+// Reads a packed plan from standard input and prints an account of it for people.
+ghost use Prim.Native.Nat.{_≤_};
+ghost use lib.ListN.{length};
+ghost use Rattle.std.specs.Vec.{made};
+use outline::Outline;
+use outline::OutlineDisplay;
+use outline::Refused;
+use outline::RefusedDisplay;
+use plan::record::Plan;
+use std::io;
+use std::io::Read;
+
+// The most bytes that are read.
+const MOST: usize = 4096;
+
+fn main(rt: LibcRuntime) -> io::Result<()> {
+    let mut buffer = [0u8; MOST];
+    let count = read_input(&rt, &mut buffer)?;
+    match Plan::read(&buffer[0..count]) {
+        Ok(plan) => print!(rt, "{}", Outline { plan: &plan }),
+        Err(refusal) => print!(rt, "{}", Refused { refusal }),
+    }
+}
+
+// Standard input up to its end or the buffer's, and how many bytes it has.
+fn read_input(rt: &LibcRuntime, buffer: &mut [u8]) -> io::Result<usize>
+    ensures { λ r. ⌜ made r (λ n. n ≤ length (now (buffer .exit))) ⌝ }
+{
+    let mut stdin = rt.stdin();
+    let mut count = 0;
+    for _ in 0..buffer.len() {
+        let read = stdin.read(&mut buffer[count..])?;
+        if read == 0 {
+            break;
+        }
+        count += read;
+    }
+    Ok(count)
+}

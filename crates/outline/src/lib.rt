@@ -1,0 +1,105 @@
+// Plans and refusals as text for people.
+ghost use Prim.Native.Nat.{_≤_};
+ghost use Rattle.std.specs.Vec.{made};
+use bits::report::ReportDisplay;
+use plan::node::Node;
+use plan::record::Plan;
+use plan::refusal::Refusal;
+use std::fmt;
+use std::fmt::Formatter;
+
+// A plan to print: a line of counts, then a line for each node.
+#[derive(Clone, Copy)]
+pub struct Outline<'a> {
+    pub plan: &'a Plan,
+}
+
+pub impl fmt::Display for Outline<'_> as OutlineDisplay {
+    fn fmt<W: fmt::Write>(&self, f: &mut Formatter<W>) -> fmt::Result {
+        let nodes = self.plan.nodes();
+        let count = nodes.len();
+        let ends = self.plan.ends();
+        let longest = self.plan.longest();
+        writeln!(f, "plan: nodes {count}, ends {ends}, longest way {longest}")?;
+        subplan(f, nodes, 0, 0, "", 0)?;
+        Ok(())
+    }
+}
+
+// The plan at an index, under so many looks and after so many ends; the index after it and the ends up to there. The mark names the way that the plan is on.
+fn subplan<W: fmt::Write>(
+    f: &mut Formatter<W>,
+    nodes: &[Node],
+    at: usize,
+    looks: usize,
+    mark: &str,
+    ends: usize,
+) -> Result<(usize, usize), fmt::Error>
+    ensures { λ r. ⌜ made r (λ next. at ≤ next .0) ⌝ }
+{
+    if at >= nodes.len() {
+        return Ok((at, ends));
+    }
+    indent(f, looks, mark)?;
+    match nodes[at] {
+        Node::End => {
+            writeln!(f, "{at} end {ends}")?;
+            Ok((at + 1, ends.saturating_add(1)))
+        }
+        Node::Order { action } => {
+            writeln!(f, "{at} order {action}")?;
+            subplan(f, nodes, at + 1, looks, "", ends)
+        }
+        Node::Look { action } => {
+            writeln!(f, "{at} look {action}")?;
+            let below = looks.saturating_add(1);
+            let (middle, ends) = subplan(f, nodes, at + 1, below, "yes: ", ends)?;
+            subplan(f, nodes, middle, below, "no:  ", ends)
+        }
+    }
+}
+
+// The space before a node under so many looks; the first node of a way has its mark there.
+fn indent<W: fmt::Write>(f: &mut Formatter<W>, looks: usize, mark: &str) -> fmt::Result
+    ensures { λ r. ⌜ Unit {0} ⌝ }
+{
+    for level in 0..looks {
+        f.write_str("  ")?;
+        if level + 1 < looks || mark.is_empty() {
+            f.write_str("     ")?;
+        }
+    }
+    f.write_str(mark)
+}
+
+// A refused plan to print: the refusal's number and values, then what they mean.
+#[derive(Clone, Copy)]
+pub struct Refused {
+    pub refusal: Refusal,
+}
+
+pub impl fmt::Display for Refused as RefusedDisplay {
+    fn fmt<W: fmt::Write>(&self, f: &mut Formatter<W>) -> fmt::Result {
+        let report = self.refusal.report();
+        writeln!(f, "plan refused {report}")?;
+        match self.refusal {
+            Refusal::Unread(bits::refusal::Refusal::Ended { place }) => writeln!(
+                f,
+                "The bytes end inside a field, at bit {place}."
+            ),
+            Refusal::Unread(bits::refusal::Refusal::Trailing { place }) => writeln!(
+                f,
+                "Bit {place} should not be there: only zero bits may follow the plan, to the end of its last byte."
+            ),
+            Refusal::Edition { place } => writeln!(f, "The edition at bit {place} is not 1."),
+            Refusal::Tag { place } => writeln!(
+                f,
+                "The tag at bit {place} is none of end, order and look."
+            ),
+            Refusal::TooLarge { place } => writeln!(
+                f,
+                "The node at bit {place} is one too many: a way has at most 32 orders and looks, and a plan at most 255 nodes."
+            ),
+        }
+    }
+}
