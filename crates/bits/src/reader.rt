@@ -45,7 +45,10 @@ impl<'a> Reader<'a> {
             return Err(Refusal::Ended { place: end });
         }
         let value = self.number(width);
-        self.place = next;
+        *self = Reader {
+            bytes: self.bytes,
+            place: next,
+        };
         Ok((value, next))
     }
 

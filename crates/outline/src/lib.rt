@@ -40,18 +40,18 @@ fn subplan<W: fmt::Write>(
     if at >= nodes.len() {
         return Ok((at, ends));
     }
-    indent(f, looks, mark)?;
+    let margin = Margin { looks, mark };
     match nodes[at] {
         Node::End => {
-            writeln!(f, "{at} end {ends}")?;
+            writeln!(f, "{margin}{at} end {ends}")?;
             Ok((at + 1, ends.saturating_add(1)))
         }
         Node::Order { action } => {
-            writeln!(f, "{at} order {action}")?;
+            writeln!(f, "{margin}{at} order {action}")?;
             subplan(f, nodes, at + 1, looks, "", ends)
         }
         Node::Look { action } => {
-            writeln!(f, "{at} look {action}")?;
+            writeln!(f, "{margin}{at} look {action}")?;
             let below = looks.saturating_add(1);
             let (middle, ends) = subplan(f, nodes, at + 1, below, "yes: ", ends)?;
             subplan(f, nodes, middle, below, "no:  ", ends)
@@ -60,16 +60,22 @@ fn subplan<W: fmt::Write>(
 }
 
 // The space before a node under so many looks; the first node of a way has its mark there.
-fn indent<W: fmt::Write>(f: &mut Formatter<W>, looks: usize, mark: &str) -> fmt::Result
-    ensures { λ r. ⌜ Unit {0} ⌝ }
-{
-    for level in 0..looks {
-        f.write_str("  ")?;
-        if level + 1 < looks || mark.is_empty() {
-            f.write_str("     ")?;
+#[derive(Clone, Copy)]
+struct Margin<'a> {
+    looks: usize,
+    mark: &'a str,
+}
+
+impl fmt::Display for Margin<'_> as MarginDisplay {
+    fn fmt<W: fmt::Write>(&self, f: &mut Formatter<W>) -> fmt::Result {
+        for level in 0..self.looks {
+            f.write_str("  ")?;
+            if level + 1 < self.looks || self.mark.is_empty() {
+                f.write_str("     ")?;
+            }
         }
+        f.write_str(self.mark)
     }
-    f.write_str(mark)
 }
 
 // A refused plan to print: the refusal's number and values, then what they mean.

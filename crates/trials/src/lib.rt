@@ -1,5 +1,3 @@
-// Tests of the public calls, in a crate of their own so that the crates they test stay quick to prove.
-#[cfg(test)]
+// Tests of the public calls, in a crate of their own so that the crates that they test stay quick to prove.
 mod bytes;
-#[cfg(test)]
 mod plans;

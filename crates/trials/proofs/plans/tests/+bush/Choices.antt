@@ -1,4 +1,4 @@
-use Rattle.trials.proofs.plans.+bush.Given as given
+use Rattle.trials.proofs.plans.tests.+bush.Given as given
 
 abbrev pub μ-bush : given.MeasureT-bush
 μ-bush l = l .depth
