@@ -45,7 +45,7 @@ fn whole(bytes: &[u8]) -> Result<Nodes, Refusal>
     if edition != 1 {
         return Err(Refusal::Edition { place: 0 });
     }
-    let mut nodes = Nodes::none();
+    let mut nodes = no_nodes();
     subplan(&mut reader, &mut nodes, 32)?;
     reader.finish()?;
     Ok(nodes)
@@ -57,7 +57,7 @@ fn subplan(reader: &mut Reader, nodes: &mut Nodes, remaining: u8) -> Result<(), 
     ensures added { λ r. ⌜ Added (plan-at remaining (bits-of (now (now (reader .entry) .bytes))) (now (nodes .entry) .count) (now (reader .entry) .place)) r (take (now (nodes .entry) .count) (now (nodes .entry) .table)) (take (now (nodes .exit) .count) (now (nodes .exit) .table)) (now (reader .exit) .place) ⌝ }
 {
     let (first, _) = node(reader, nodes.count, remaining)?;
-    nodes.push(first);
+    push(nodes, first);
     match first {
         Node::End => Ok(()),
         Node::Order { .. } => subplan(reader, nodes, remaining - 1),
@@ -66,6 +66,26 @@ fn subplan(reader: &mut Reader, nodes: &mut Nodes, remaining: u8) -> Result<(), 
             subplan(reader, nodes, remaining - 1)
         }
     }
+}
+
+fn no_nodes() -> Nodes
+    ensures nodes { λ r. ⌜ take (r .count) (r .table) ≡ [] ⌝ }
+    ensures count { λ r. ⌜ r .count ≡ 0 ⌝ }
+{
+    Nodes {
+        table: [Node::End; 255],
+        count: 0,
+    }
+}
+
+// One node more.
+fn push(nodes: &mut Nodes, node: Node)
+    requires { ⌜ now nodes .count < 255 ⌝ }
+    ensures nodes { λ _. ⌜ take (now (nodes .exit) .count) (now (nodes .exit) .table) ≡ take (now (nodes .entry) .count) (now (nodes .entry) .table) ++ node ∷ [] ⌝ }
+    ensures count { λ _. ⌜ now (nodes .exit) .count ≡ now (nodes .entry) .count + 1 ⌝ }
+{
+    nodes.table[nodes.count] = node;
+    nodes.count += 1;
 }
 
 // The node at the reader's place, with `count` nodes before it and room for `remaining` orders and looks.

@@ -66,5 +66,5 @@ returns-in-Continue-subplan t c =
     let under-no = read-as _ _ _ (ap (λ b. bits-of (now b)) later) refl refl refl refl (c .subplan-in-Look-2 .ensures .added) in
     record {
       bytes = c .subplan-in-Look-2 .ensures .bytes ∙ later;
-      added = added-look _ _ _ _ _ _ _ _ (c .in-Look .action) (c .in-Continue-first .field-0-1) _ _ _ _ (rw looks at node) (rw looks at (c .push .ensures .nodes)) (counted (c .push .last .self) ∙ c .push .ensures .count) (counted (c .subplan-in-Look .last .nodes)) under-yes under-no;
+      added = added-look _ _ _ _ _ _ _ _ (c .in-Look .action) (c .in-Continue-first .field-0-1) _ _ _ _ (rw looks at node) (rw looks at (c .push .ensures .nodes)) (counted (c .push .last .nodes) ∙ c .push .ensures .count) (counted (c .subplan-in-Look .last .nodes)) under-yes under-no;
     }

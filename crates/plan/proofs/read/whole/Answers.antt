@@ -53,7 +53,7 @@ returns-in-Break-subplan c =
     let p = err-from-errBy (c .from-residual-in-Break-subplan .result) (c .from-residual-in-Break-subplan .ensures .1) in
     let field = edition-as (c .field .ensures .value) (c .new-reader .ensures .bytes) (c .new-reader .ensures .place) ∙ c .in-Continue-edition .was tt in
     let same = c .field .ensures .bytes ∙ c .new-reader .ensures .bytes in
-    let added = read-as 32 _ _ (ap (λ b. bits-of (now b)) same) (c .none-nodes .ensures .count) (c .in-Continue-edition .ensures tt .place) (c .in-Break-subplan .was tt) (c .none-nodes .ensures .nodes) (c .subplan .ensures .added) in
+    let added = read-as 32 _ _ (ap (λ b. bits-of (now b)) same) (c .no-nodes-nodes .ensures .count) (c .in-Continue-edition .ensures tt .place) (c .in-Break-subplan .was tt) (c .no-nodes-nodes .ensures .nodes) (c .subplan .ensures .added) in
     rw (p .1, p .2) (record {
       value = sym (plan-refused (c .args .bytes .now) _ _ _ _ _ field (c .if-edition-ne1 .left) added);
       lawful = tt;
@@ -65,7 +65,7 @@ returns-in-Break-finish c =
     let p = err-from-errBy (c .from-residual-in-Break-finish .result) (c .from-residual-in-Break-finish .ensures .1) in
     let field = edition-as (c .field .ensures .value) (c .new-reader .ensures .bytes) (c .new-reader .ensures .place) ∙ c .in-Continue-edition .was tt in
     let same = c .field .ensures .bytes ∙ c .new-reader .ensures .bytes in
-    let added = read-as 32 _ _ (ap (λ b. bits-of (now b)) same) (c .none-nodes .ensures .count) (c .in-Continue-edition .ensures tt .place) (c .in-Continue-subplan .was tt) (c .none-nodes .ensures .nodes) (c .subplan .ensures .added) in
+    let added = read-as 32 _ _ (ap (λ b. bits-of (now b)) same) (c .no-nodes-nodes .ensures .count) (c .in-Continue-edition .ensures tt .place) (c .in-Continue-subplan .was tt) (c .no-nodes-nodes .ensures .nodes) (c .subplan .ensures .added) in
     let last = ending-as (c .subplan .last .reader .place) (c .finish .ensures) (c .subplan .ensures .bytes ∙ same) ∙ c .in-Break-finish .was tt in
     rw (p .1, p .2) (record {
       value = sym (all-read (c .args .bytes .now) _ _ _ _ field (c .if-edition-ne1 .left) added last);
@@ -77,7 +77,7 @@ pub returns : need.returns
 returns c =
     let field = edition-as (c .field .ensures .value) (c .new-reader .ensures .bytes) (c .new-reader .ensures .place) ∙ c .in-Continue-edition .was tt in
     let same = c .field .ensures .bytes ∙ c .new-reader .ensures .bytes in
-    let added = read-as 32 _ _ (ap (λ b. bits-of (now b)) same) (c .none-nodes .ensures .count) (c .in-Continue-edition .ensures tt .place) (c .in-Continue-subplan .was tt) (c .none-nodes .ensures .nodes) (c .subplan .ensures .added) in
+    let added = read-as 32 _ _ (ap (λ b. bits-of (now b)) same) (c .no-nodes-nodes .ensures .count) (c .in-Continue-edition .ensures tt .place) (c .in-Continue-subplan .was tt) (c .no-nodes-nodes .ensures .nodes) (c .subplan .ensures .added) in
     let last = ending-as (c .subplan .last .reader .place) (c .finish .ensures) (c .subplan .ensures .bytes ∙ same) ∙ c .in-Continue-finish .was tt in
     let read = all-read (c .args .bytes .now) _ _ _ _ field (c .if-edition-ne1 .left) added last in
     record {
