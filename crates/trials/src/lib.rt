@@ -1,3 +1,4 @@
 // Tests of the public calls, in a crate of their own so that the crates that they test stay quick to prove.
 mod bytes;
 mod plans;
+mod sets;

@@ -1,8 +1,8 @@
 // Packed plans read and written.
+ghost use Prim.Native.Nat.{_≤_};
+
 #[cfg(test)]
 mod tests {
-    ghost use Prim.Native.Nat.{_≤_};
-    ghost use lib.ListN.{length};
     use bits::refusal::TooShort;
     use bits::refusal::TooShortDebug;
     use bits::refusal::TooShortPartialEq;

@@ -1,0 +1,6 @@
+mod Digits
+mod Facts
+pub mod Laws
+mod Members
+mod Words
+mod Promise

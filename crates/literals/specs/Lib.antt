@@ -1,0 +1,4 @@
+pub mod Literals
+pub mod Membership
+pub mod Recorded
+pub mod Tables
