@@ -1,4 +1,7 @@
 pub mod Laws
-pub mod Numbers
-pub mod Packing
-pub mod Steps
+mod Numbers
+mod Packing
+mod Pieces
+mod Standing
+mod Steps
+mod Writing

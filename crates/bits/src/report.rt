@@ -24,6 +24,15 @@ impl Values {
         }
     }
 
+    pub fn two(first: u128, second: u128) -> Self
+        ensures { λ r. ⌜ take (r .count) (r .items) ≡ first ∷ second ∷ [] ⌝ }
+    {
+        Values {
+            items: [first, second, 0, 0],
+            count: 2,
+        }
+    }
+
     pub fn as_slice(&self) -> &[u128]
         ensures { λ r. ⌜ now r ≡ take (now (self .entry) .count) (now (self .entry) .items) ⌝ }
     {

@@ -11,7 +11,7 @@ use Rattle.std.specs.declared.result.Result.{Result}
 use Rattle.std.specs.declared.result.Result.the-variants.{Ok, Err}
 use Rattle.bits.specs.Bits.{numeral, bits-of, packed, AreBytes}
 use Rattle.bits.specs.Fields.{ending, followed, after, refused-as}
-use Rattle.bits.proofs.Laws.{Stands, stands-split, stands-join, packed-stands, packed-ends, packed-only, length-numeral}
+use Rattle.bits.proofs.Laws.{Stands, stands-split, stands-join, packed-stands, packed-ends, packed-only, length-numeral, both-read, test-passed, lifted-read, same-answer, test-answered}
 use Rattle.plan.specs.Layout.{plan-field, plan-at, ended, edition-one, read-plan, tree-bits, plan-bits, written}
 use Rattle.plan.specs.Plans.{plan-tree}
 use Rattle.plan.specs.Promises.{ReadsExactly, WrittenOnce}
@@ -19,7 +19,6 @@ use Rattle.plan.specs.Tree.{Tree, Lawful}
 use Rattle.plan.specs.declared.record.Plan.{Plan}
 use Rattle.plan.specs.declared.refusal.Refusal.the-variants.{Unread, Edition}
 use Rattle.plan.proofs.NodeBits.{plan-field-reads, plan-field-stands}
-use Rattle.plan.proofs.Outcomes.{both-read, test-passed, lifted-read, same-answer, passed}
 use Rattle.plan.proofs.TreeBits.{Grew, plan-read, plan-reads}
 
 -- what was read stands in the bytes, whole, and the layout ends after it
@@ -46,7 +45,7 @@ whole-read bytes t h =
     let bits = bits-of bytes in
     let first = both-read (plan-field bits 0 4) (edition-one bits) t h in
     let at = plan-field-stands bits 0 4 (first .0) (first .1) (first .2) in
-    let edition = passed (eqb (first .0) 1) _ _ t (first .3) in
+    let edition = test-answered (eqb (first .0) 1) _ _ t (first .3) in
     let tree = both-read (plan-at 32 bits 0 (first .1)) (ended bits) t (edition .1) in
     let grew = plan-read bits 32 0 (first .1) (tree .0) (tree .1) (omega arith) (tree .2) in
     let last = test-passed (refused-as Unread (ending bits (tree .1))) (Ok (tree .0)) t (tree .3) in

@@ -1,8 +1,7 @@
-pub mod Adding
-pub mod Exact
-pub mod Joins
-pub mod NodeBits
-pub mod Outcomes
-pub mod TreeBits
-pub mod Ways
-pub mod WaysOut
+mod Adding
+mod Exact
+mod Joins
+mod NodeBits
+mod TreeBits
+mod Ways
+mod WaysOut

@@ -13,12 +13,11 @@ use Rattle.std.specs.declared.result.Result.{Result}
 use Rattle.std.specs.declared.result.Result.the-variants.{Ok, Err}
 use Rattle.bits.specs.Bits.{numeral}
 use Rattle.bits.specs.Fields.{field, number-at, followed, refused-as}
-use Rattle.bits.proofs.Laws.{Stands, stands-split, stands-join, field-reads, field-stands, length-numeral}
+use Rattle.bits.proofs.Laws.{Stands, stands-split, stands-join, field-reads, field-stands, length-numeral, both-read, lifted-read, not-refused, same-answer}
 use Rattle.plan.specs.Layout.{plan-field, node-at, tagged-node, named-node, node-bits}
 use Rattle.plan.specs.declared.node.Node.{Node}
 use Rattle.plan.specs.declared.node.Node.the-variants.{End, Order, Look}
 use Rattle.plan.specs.declared.refusal.Refusal.the-variants.{Unread, Edition, Tag, TooLarge}
-use Rattle.plan.proofs.Outcomes.{both-read, lifted-read, not-refused, same-answer}
 
 two-four : (m n : ℕ) → length (numeral 2 m ++ numeral 4 n) ≡ 6
 two-four m n = simp (length-append, length-numeral)

@@ -7,7 +7,7 @@ use Rattle.std.specs.declared.result.Result.{Result}
 use Rattle.std.specs.declared.result.Result.the-variants.{Ok, Err}
 use Rattle.bits.specs.Bits.{bytes-for}
 use Rattle.bits.specs.declared.refusal.TooShort.{TooShort}
-use Rattle.bits.proofs.Laws.{wrote-field}
+use Rattle.bits.proofs.Writing.{wrote-field}
 use Rattle.bits.proofs.writer.Writer.put_field.Needs as need
 
 pub returns-then-place-end : need.returns-then-place-end

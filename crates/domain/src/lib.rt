@@ -1,0 +1,4 @@
+// Domain sheets: the record, and its packed layout read and written.
+pub mod action;
+mod list;
+pub mod refusal;

@@ -1,0 +1,1 @@
+// Fields, literals and lists of literals.
