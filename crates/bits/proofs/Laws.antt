@@ -8,6 +8,6 @@ pub use Rattle.bits.proofs.Standing.{Stands, stands-none, stands-split, stands
 -- what accepted reads say of their parts
 pub use Rattle.bits.proofs.Pieces.{err-not-ok, same-answer, both-read, test-passed, lifted-read, not-refused, test-answered}
 -- pieces of a layout, read back as they are printed
-pub use Rattle.bits.proofs.Pieces.{Piece, field-piece, tested, tested-piece, chained, piece-then}
+pub use Rattle.bits.proofs.Pieces.{Piece, field-piece, tested, tested-piece, chained, piece-made, piece-then, piece-by, FirstAndRest, none-piece, cons-piece}
 -- bits written one after another
 pub use Rattle.bits.proofs.Writing.{wrote-none, wrote-as, wrote-then, wrote-refused, wrote-all}

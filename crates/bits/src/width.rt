@@ -9,11 +9,19 @@ pub struct Width {
 }
 
 impl Width {
+    pub const ONE: Width = Width { bits: 1 };
+
     pub const TWO: Width = Width { bits: 2 };
+
+    pub const THREE: Width = Width { bits: 3 };
 
     pub const FOUR: Width = Width { bits: 4 };
 
-    pub(crate) fn bits(self) -> u8
+    pub const FIVE: Width = Width { bits: 5 };
+
+    pub const SIX: Width = Width { bits: 6 };
+
+    pub fn bits(self) -> u8
         ensures { λ r. ⌜ r ≡ self .bits ⌝ }
     {
         self.bits

@@ -1,4 +1,7 @@
+pub mod Domains
 pub mod Layout
 pub mod Lists
+pub mod Promises
 pub mod Refusals
+pub mod Rows
 pub mod Sheet

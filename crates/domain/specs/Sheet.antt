@@ -35,16 +35,19 @@ abbrev pub clashes : Effect → List Effect → Bool
 clashes e [] = false
 clashes e (f ∷ fs) = clash e f || clashes e fs
 
--- each effect of the first F fluents, with at most 7 conditions; literals rise strictly from the least on; none clashes with an earlier one
-unfoldable pub lawful-effects : ℕ → ℕ → List Effect → List Effect → Bool
-lawful-effects F least earlier [] = true
-lawful-effects F least earlier (e ∷ es) =
-    listed F 0 7 (e .conditions)
-    && ((ltb (e .literal / 2) F && leb least (e .literal))
-    && (not (clashes e earlier) && lawful-effects F (e .literal + 1) (earlier ++ e ∷ []) es))
+-- none of the effects clashes with an earlier one
+unfoldable pub clash-free : List Effect → List Effect → Bool
+clash-free earlier [] = true
+clash-free earlier (e ∷ es) = not (clashes e earlier) && clash-free (earlier ++ e ∷ []) es
+
+-- each effect speaks of the first F fluents and has at most 7 conditions, and their literals rise strictly, from the least on
+unfoldable pub rising-effects : ℕ → ℕ → List Effect → Bool
+rising-effects F least [] = true
+rising-effects F least (e ∷ es) =
+    (listed F 0 7 (e .conditions) && (ltb (e .literal / 2) F && leb least (e .literal))) && rising-effects F (e .literal + 1) es
 
 abbrev pub lawful-deed : ℕ → Deed → Bool
-lawful-deed F (works es) = leb (length es) 8 && lawful-effects F 0 [] es
+lawful-deed F (works es) = leb (length es) 8 && (rising-effects F 0 es && clash-free [] es)
 lawful-deed F (senses f) = ltb f F
 
 abbrev pub lawful-action : ℕ → Action → Bool

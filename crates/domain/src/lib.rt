@@ -1,4 +1,6 @@
 // Domain sheets: the record, and its packed layout read and written.
 pub mod action;
 mod list;
+pub mod record;
 pub mod refusal;
+mod rows;

@@ -22,8 +22,8 @@ pub enum Refusal {
 pub impl From<bits::refusal::Refusal> for Refusal as FromBits {
     ghost converts = { λ r s. s ≡ Unread r };
 
-    fn from(refusal: bits::refusal::Refusal) -> Refusal {
-        Refusal::Unread(refusal)
+    fn from(inner: bits::refusal::Refusal) -> Refusal {
+        Refusal::Unread(inner)
     }
 }
 

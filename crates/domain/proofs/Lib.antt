@@ -1,0 +1,5 @@
+mod Exact
+mod Items
+mod ListBits
+mod ListSteps
+mod SheetBits
