@@ -1,3 +1,4 @@
+mod Clashes
 mod Exact
 mod Items
 mod ListBits

@@ -7,15 +7,23 @@ ghost use mathlib.Core.List.{[], _∷_, _++_};
 ghost use mathlib.Core.Path.{_≡_};
 ghost use Rattle.std.specs.Vec.{made};
 ghost use Rattle.bits.specs.Bits.{bits-of};
-ghost use Rattle.domain.specs.Layout.{effect-at, effects-at, effect-bits};
-ghost use Rattle.domain.specs.Rows.{effects-in, holds};
+ghost use Rattle.std.specs.declared.option.Option.the-variants.{Some, None};
+ghost use Rattle.domain.specs.Layout.{effect-at, effects-at, counted-at, working-at, sensing-at, deed-at, effect-bits, clash-place};
+ghost use Rattle.domain.specs.Rows.{effects-in, deed-in, holds};
+ghost use Rattle.domain.specs.Sheet.{clash, clashes, clash-free};
 use crate::action::Effect;
 use crate::action::Effects;
+use crate::action::Kind;
+use crate::list::count;
+use crate::list::field;
 use crate::list::list;
 use crate::list::literal;
+use crate::list::members;
 use crate::refusal::Refusal;
 use bits::reader::Reader;
 use bits::width::Width;
+use literals::set::opposite;
+use literals::set::opposites;
 
 impl Effects {
     fn none() -> Self
@@ -31,6 +39,12 @@ impl Effects {
         }
     }
 
+    pub(crate) fn as_slice(&self) -> &[Effect]
+        ensures { λ r. ⌜ now r ≡ effects-in (now (self .entry)) ⌝ }
+    {
+        &self.rows[0..self.count]
+    }
+
     // One effect more.
     fn push(&mut self, effect: Effect)
         requires { ⌜ now self .count < 8 ⌝ }
@@ -40,6 +54,106 @@ impl Effects {
         self.rows[self.count] = effect;
         self.count += 1;
     }
+}
+
+// What the action does, once its kind is known: 1 for sensing.
+pub(crate) fn deed(
+    reader: &mut Reader,
+    fluents: u8,
+    action: u8,
+    kind: u16,
+) -> Result<(Kind, u128), Refusal>
+    ensures value { λ r. ⌜ holds deed-in r ≡ deed-at (bits-of (now (now (reader .entry) .bytes))) fluents action kind (now (reader .entry) .place) ⌝ }
+    ensures bytes { λ r. ⌜ now (reader .exit) .bytes ≡ now (reader .entry) .bytes ⌝ }
+    ensures place { λ r. ⌜ made r (λ v. now (reader .exit) .place ≡ v .1) ⌝ }
+{
+    if kind == 1 {
+        let (fluent, next) = sensing(reader, fluents)?;
+        return Ok((Kind::Sensing { fluent }, next));
+    }
+    let (effects, next) = working(reader, fluents, action)?;
+    Ok((Kind::Working { effects }, next))
+}
+
+// The fluent that an action senses.
+fn sensing(reader: &mut Reader, fluents: u8) -> Result<(u8, u128), Refusal>
+    ensures value { λ r. ⌜ r ≡ sensing-at (bits-of (now (now (reader .entry) .bytes))) fluents (now (reader .entry) .place) ⌝ }
+    ensures bytes { λ r. ⌜ now (reader .exit) .bytes ≡ now (reader .entry) .bytes ⌝ }
+    ensures place { λ r. ⌜ made r (λ v. now (reader .exit) .place ≡ v .1) ⌝ }
+{
+    let place = reader.place();
+    let (fluent, next) = field(reader, Width::FIVE)?;
+    if fluent >= u16::from(fluents) {
+        return Err(Refusal::UnknownFluent { place });
+    }
+    Ok((fluent as u8, next))
+}
+
+// The effects of an action, none of which clashes with an earlier one.
+fn working(reader: &mut Reader, fluents: u8, action: u8) -> Result<(Effects, u128), Refusal>
+    ensures value { λ r. ⌜ holds effects-in r ≡ working-at (bits-of (now (now (reader .entry) .bytes))) fluents action (now (reader .entry) .place) ⌝ }
+    ensures bytes { λ r. ⌜ now (reader .exit) .bytes ≡ now (reader .entry) .bytes ⌝ }
+    ensures place { λ r. ⌜ made r (λ v. now (reader .exit) .place ≡ v .1) ⌝ }
+{
+    let start = reader.place();
+    let (effects, next) = counted(reader, fluents)?;
+    match first_clash(effects.as_slice(), start) {
+        Some(place) => Err(Refusal::NotExclusive { action, place }),
+        None => Ok((effects, next)),
+    }
+}
+
+// The first bit of the earliest effect that clashes with an earlier one; the effects' count stands at the place.
+fn first_clash(effects: &[Effect], count_place: u128) -> Option<u128>
+    requires few { ⌜ length (now effects) ≤ 8 ⌝ }
+    requires fits { ⌜ «count_place» ≤ 2 ^ 67 ⌝ }
+    ensures { λ r. ⌜ r ≡ cond (clash-free [] (now (effects .entry))) None (Some (clash-place [] («count_place» + 4) (now (effects .entry)))) ⌝ }
+{
+    let mut place = count_place + 4;
+    for (i, effect) in effects.iter().enumerate() {
+        if clashes(effect, &effects[0..i]) {
+            return Some(place);
+        }
+        place += effect_len(effect);
+    }
+    None
+}
+
+// Whether an effect clashes with one of the earlier ones.
+fn clashes(effect: &Effect, earlier: &[Effect]) -> bool
+    ensures { λ r. ⌜ r ≡ clashes (now (effect .entry)) (now (earlier .entry)) ⌝ }
+{
+    for other in earlier {
+        if clash(effect, other) {
+            return true;
+        }
+    }
+    false
+}
+
+// Whether the literals of two effects are opposites, and no condition of one is the opposite of a condition of the other.
+fn clash(one: &Effect, other: &Effect) -> bool
+    ensures { λ r. ⌜ r ≡ clash (now (one .entry)) (now (other .entry)) ⌝ }
+{
+    one.literal == opposite(other.literal) && one.conditions & opposites(other.conditions) == 0
+}
+
+// How many bits an effect has.
+fn effect_len(effect: &Effect) -> u128
+    ensures value { λ r. ⌜ r ≡ length (effect-bits (now (effect .entry))) ⌝ }
+    ensures few { λ r. ⌜ r ≤ 400 ⌝ }
+{
+    9 + 6 * u128::from(members(effect.conditions))
+}
+
+// A count of effects and the effects.
+fn counted(reader: &mut Reader, fluents: u8) -> Result<(Effects, u128), Refusal>
+    ensures value { λ r. ⌜ holds effects-in r ≡ counted-at (bits-of (now (now (reader .entry) .bytes))) fluents (now (reader .entry) .place) ⌝ }
+    ensures bytes { λ r. ⌜ now (reader .exit) .bytes ≡ now (reader .entry) .bytes ⌝ }
+    ensures place { λ r. ⌜ made r (λ v. now (reader .exit) .place ≡ v .1) ⌝ }
+{
+    let (count, _) = count(reader, Width::FOUR, 0, 8)?;
+    effects(reader, fluents, count)
 }
 
 // So many effects whose literals rise strictly.
