@@ -1,15 +1,17 @@
 -- One turn of a loop that reads items one after another. Assumes nothing.
-use mathlib.Core.Path.{_≡_, refl, sym, ap, _∙_}
+use mathlib.Core.Path.{_≡_, refl, sym, ap, subst, _∙_}
+use denote.Ref.{RefT, now}
 use mathlib.Core.Bool.{Bool}
 use mathlib.Core.List.{List, [], _∷_, _++_, append-assoc, append-nil}
 use Prim.Native.Nat.{ℕ, suc, _+_, _-_, _≤_, _<_}
 use native.Mathlib.Omega.{arith}
 use Rattle.std.specs.declared.result.Result.{Result}
 use Rattle.std.specs.declared.result.Result.the-variants.{Ok, Err}
+use Rattle.bits.specs.Bits.{bits-of}
 use Rattle.bits.specs.Fields.{followed}
-use Rattle.domain.specs.Layout.{and-item, effect-at, effects-at}
+use Rattle.domain.specs.Layout.{and-item, effect-at, effects-at, groups-at, action-at, actions-at}
+use Rattle.domain.specs.Lists.{list-at}
 use Rattle.domain.specs.Rows.{before}
-use Rattle.domain.specs.declared.action.Effect.{Effect}
 use Rattle.domain.specs.declared.refusal.Refusal.{Refusal}
 
 module _ {X : Type 0} (xs : List X) (rest : X → ℕ → Result (List X × ℕ) Refusal) where
@@ -32,22 +34,41 @@ none-before (Err e) = refl
 pub done-before : {X E : Type 0} (xs : List X) (p : ℕ) → before {E = E} xs (Ok ([], p)) ≡ Ok (xs, p)
 done-before xs p = ap (λ l. Ok (l, p)) (append-nil xs)
 
--- effects
-module _ (bits : List Bool) (F n i : ℕ) (whole : Result (List Effect × ℕ) Refusal) (es : List Effect) (least p : ℕ) (so-far : before es (effects-at (n - i) bits F least p) ≡ whole) where
-  pub effects-more : (e : Effect) (q : ℕ) → i < n → effect-at bits F least p ≡ Ok (e, q) → before (es ++ e ∷ []) (effects-at (n - (i + 1)) bits F (e .literal + 1) q) ≡ whole
-  unfolding effects-at
-  effects-more e q inside read =
-      let left : n - i ≡ suc (n - (i + 1)) = omega arith in
-      sym (item-read es (λ e q. effects-at (n - (i + 1)) bits F (e .literal + 1) q) read) ∙ ap (λ k. before es (effects-at k bits F least p)) (sym left) ∙ so-far
+-- n items read one after another; what is asked of an item may depend on those before it
+pub record Items {X S : Type 0} (all : ℕ → S → ℕ → Result (List X × ℕ) Refusal) (item : S → ℕ → Result (X × ℕ) Refusal) (next : S → X → S) : Type 0 where
+  pub none : (s : S) (p : ℕ) → all 0 s p ≡ Ok ([], p)
+  pub more : (n : ℕ) (s : S) (p : ℕ) → all (suc n) s p ≡ followed (item s p) (λ x q. followed (all n (next s x) q) (and-item x))
 
-  pub effects-stop : (e : Refusal) → i < n → effect-at bits F least p ≡ Err e → Err e ≡ whole
-  unfolding effects-at
-  effects-stop e inside read =
-      let left : n - i ≡ suc (n - (i + 1)) = omega arith in
-      sym (item-refused es (λ e q. effects-at (n - (i + 1)) bits F (e .literal + 1) q) read) ∙ ap (λ k. before es (effects-at k bits F least p)) (sym left) ∙ so-far
+pub effect-items : (bits : List Bool) (F : ℕ) → Items (λ n least p. effects-at n bits F least p) (λ least p. effect-at bits F least p) (λ _ e. e .literal + 1)
+unfolding effects-at
+effect-items bits F = record { none = λ s p. refl; more = λ n s p. refl }
 
-  pub effects-done : n ≤ i → Ok (es, p) ≡ whole
-  unfolding effects-at
-  effects-done all =
+pub group-items : (bits : List Bool) (F : ℕ) → Items {S = Unit {0}} (λ n _ p. groups-at n bits F p) (λ _ p. list-at bits F 4 2 8 p) (λ s _. s)
+unfolding groups-at
+group-items bits F = record { none = λ s p. refl; more = λ n s p. refl }
+
+pub action-items : (bits : List Bool) (F : ℕ) → Items (λ n a p. actions-at n bits F a p) (λ a p. action-at bits F a p) (λ a _. a + 1)
+unfolding actions-at
+action-items bits F = record { none = λ s p. refl; more = λ n s p. refl }
+
+module _ {X S : Type 0} {all : ℕ → S → ℕ → Result (List X × ℕ) Refusal} {item : S → ℕ → Result (X × ℕ) Refusal} {next : S → X → S} (items : Items all item next)
+    (n i : ℕ) (whole : Result (List X × ℕ) Refusal) (xs : List X) (s : S) (p : ℕ) (so-far : before xs (all (n - i) s p) ≡ whole) where
+  one-less : i < n → before xs (followed (item s p) (λ x q. followed (all (n - (i + 1)) (next s x) q) (and-item x))) ≡ whole
+  one-less inside =
+      let left : n - i ≡ suc (n - (i + 1)) = omega arith in
+      ap (before xs) (sym (ap (λ k. all k s p) left ∙ items .more (n - (i + 1)) s p)) ∙ so-far
+
+  pub items-more : (x : X) (q : ℕ) → i < n → item s p ≡ Ok (x, q) → before (xs ++ x ∷ []) (all (n - (i + 1)) (next s x) q) ≡ whole
+  items-more x q inside read = sym (item-read xs (λ x q. all (n - (i + 1)) (next s x) q) read) ∙ one-less inside
+
+  pub items-stop : (e : Refusal) → i < n → item s p ≡ Err e → Err e ≡ whole
+  items-stop e inside read = sym (item-refused xs (λ x q. all (n - (i + 1)) (next s x) q) read) ∙ one-less inside
+
+  pub items-done : n ≤ i → Ok (xs, p) ≡ whole
+  items-done done =
       let left : n - i ≡ 0 = omega arith in
-      sym (done-before es p) ∙ ap (λ k. before es (effects-at k bits F least p)) (sym left) ∙ so-far
+      sym (done-before xs p) ∙ ap (before xs) (sym (ap (λ k. all k s p) left ∙ items .none s p)) ∙ so-far
+
+-- an item read from the same bytes
+pub read-here : {X : Type 0} {r : Result (X × ℕ) Refusal} {b b′ : RefT (List ℕ)} (item : List Bool → Result (X × ℕ) Refusal) → r ≡ item (bits-of (now b)) → b ≡ b′ → item (bits-of (now b′)) ≡ r
+read-here {r = r} item h b = sym (subst (λ x. r ≡ item (bits-of (now x))) b h)

@@ -138,7 +138,6 @@ module _ (F a : ℕ) (small : F ≤ 32) where
   kind-below (senses f) = omega arith
 
   action-piece : Piece (λ bits p. action-at bits F a p) action-bits (λ x. lawful-action F x ≡ true)
-  unfolding action-at
   action-piece =
       piece-by
       (λ x h. and-from _ _ (h .1 .1 .0) (h .1 .1 .1 .1))

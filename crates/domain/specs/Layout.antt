@@ -70,7 +70,7 @@ row-at bits F a kind p =
     followed (list-at bits F 4 0 8 p) (λ needs q. followed (deed-at bits F a kind q) (λ deed r. Ok (record { needs = needs; deed = deed }, r)))
 
 -- an action: a kind bit, a list of needs, and a fluent or a count of effects and the effects
-unfoldable pub action-at : List Bool → ℕ → ℕ → ℕ → Result (Action × ℕ) Refusal
+abbrev pub action-at : List Bool → ℕ → ℕ → ℕ → Result (Action × ℕ) Refusal
 action-at bits F a p = followed (domain-field bits p 1) (λ kind q. followed (row-at bits F a kind q) (λ row r. Ok (row, r)))
 
 -- n actions, the first of which is the action a

@@ -1,6 +1,7 @@
 // Domain sheets: the record, and its packed layout read and written.
 pub mod action;
 mod list;
+mod read;
 pub mod record;
 pub mod refusal;
 mod rows;
