@@ -4,3 +4,4 @@ mod Items
 mod ListBits
 mod ListSteps
 mod SheetBits
+mod WaysOut
