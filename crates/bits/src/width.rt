@@ -21,6 +21,8 @@ impl Width {
 
     pub const SIX: Width = Width { bits: 6 };
 
+    pub const SIXTEEN: Width = Width { bits: 16 };
+
     pub fn bits(self) -> u8
         ensures { λ r. ⌜ r ≡ self .bits ⌝ }
     {
