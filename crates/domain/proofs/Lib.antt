@@ -3,5 +3,6 @@ mod Exact
 mod Items
 mod ListBits
 mod ListSteps
+mod RowParts
 mod SheetBits
 mod WaysOut

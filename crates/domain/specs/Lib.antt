@@ -1,3 +1,4 @@
+pub mod Accessors
 pub mod Domains
 pub mod Layout
 pub mod Lists

@@ -5,3 +5,4 @@ mod read;
 pub mod record;
 pub mod refusal;
 mod rows;
+pub mod sheet;

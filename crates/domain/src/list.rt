@@ -118,7 +118,8 @@ pub(crate) fn put_list(writer: &mut Writer, width: Width, set: LiteralSet) -> Re
 
 // How many bits a set has as a list.
 pub(crate) fn list_len(width: Width, set: LiteralSet) -> usize
-    ensures { λ r. ⌜ r ≡ length (list-bits (width .bits) set) ⌝ }
+    ensures value { λ r. ⌜ r ≡ length (list-bits (width .bits) set) ⌝ }
+    ensures few { λ r. ⌜ r ≤ 400 ⌝ }
 {
     usize::from(width.bits()) + 6 * usize::from(members(set))
 }

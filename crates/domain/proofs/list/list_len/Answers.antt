@@ -13,4 +13,7 @@ returns c =
     let set = c .args .set in
     let w = c .args .width .bits in
     let long = length-append (numeral w (length (members set))) (joined (numeral 6) (members set)) in
-    omega (arith, length-numeral w (length (members set)), literals-long (members set))
+    record {
+      value = omega (arith, length-numeral w (length (members set)), literals-long (members set));
+      few = omega (arith, c .args .width .few, c .members .ensures .few);
+    }
