@@ -1,11 +1,18 @@
-// Reads a packed plan from standard input and prints an account of it for people.
+// Reads a trial input, a domain and a plan, from standard input and prints an account of both for people.
 ghost use Prim.Native.Nat.{_≤_};
 ghost use lib.ListN.{length};
 ghost use Rattle.std.specs.Vec.{made};
-use outline::Outline;
-use outline::OutlineDisplay;
-use outline::Refused;
-use outline::RefusedDisplay;
+use domain::record::Domain;
+use outline::plans::Outline;
+use outline::plans::OutlineDisplay;
+use outline::refusals::DomainRefused;
+use outline::refusals::DomainRefusedDisplay;
+use outline::refusals::InputRefused;
+use outline::refusals::InputRefusedDisplay;
+use outline::refusals::PlanRefused;
+use outline::refusals::PlanRefusedDisplay;
+use outline::sheets::Sheet;
+use outline::sheets::SheetDisplay;
 use plan::record::Plan;
 use std::io;
 use std::io::Read;
@@ -16,9 +23,26 @@ const MOST: usize = 4096;
 fn main(rt: LibcRuntime) -> io::Result<()> {
     let mut buffer = [0u8; MOST];
     let count = read_input(&rt, &mut buffer)?;
-    match Plan::read(&buffer[0..count]) {
+    match input::split(&buffer[0..count]) {
+        Ok((domain, plan)) => {
+            print_domain(&rt, domain)?;
+            print_plan(&rt, plan)
+        }
+        Err(refusal) => print!(rt, "{}", InputRefused { refusal }),
+    }
+}
+
+fn print_domain(rt: &LibcRuntime, bytes: &[u8]) -> io::Result<()> {
+    match Domain::read(bytes) {
+        Ok(domain) => print!(rt, "{}", Sheet { domain: &domain }),
+        Err(refusal) => print!(rt, "{}", DomainRefused { refusal }),
+    }
+}
+
+fn print_plan(rt: &LibcRuntime, bytes: &[u8]) -> io::Result<()> {
+    match Plan::read(bytes) {
         Ok(plan) => print!(rt, "{}", Outline { plan: &plan }),
-        Err(refusal) => print!(rt, "{}", Refused { refusal }),
+        Err(refusal) => print!(rt, "{}", PlanRefused { refusal }),
     }
 }
 
