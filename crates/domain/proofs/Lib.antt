@@ -1,6 +1,7 @@
 mod Clashes
 mod Exact
 mod Items
+mod Joins
 mod ListBits
 mod ListSteps
 mod RowParts

@@ -6,3 +6,4 @@ pub mod record;
 pub mod refusal;
 mod rows;
 pub mod sheet;
+pub mod write;
