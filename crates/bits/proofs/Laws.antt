@@ -11,3 +11,5 @@ pub use Rattle.bits.proofs.Pieces.{err-not-ok, same-answer, both-read, test-pa
 pub use Rattle.bits.proofs.Pieces.{Piece, field-piece, tested, tested-piece, chained, piece-made, piece-then, piece-by, FirstAndRest, none-piece, cons-piece}
 -- bits written one after another
 pub use Rattle.bits.proofs.Writing.{wrote-none, wrote-as, wrote-then, wrote-refused, wrote-all}
+-- lists joined from the parts of other lists
+pub use Rattle.bits.proofs.Joins.{joined-append, joined-take, length-more, length-all, joined-split, joined-map}

@@ -1,3 +1,4 @@
+mod Joins
 pub mod Laws
 mod Numbers
 mod Packing

@@ -1,7 +1,6 @@
 mod Clashes
 mod Exact
 mod Items
-mod Joins
 mod ListBits
 mod ListSteps
 mod RowParts

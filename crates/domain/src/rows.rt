@@ -8,7 +8,7 @@ ghost use mathlib.Core.Path.{_≡_};
 ghost use Rattle.std.specs.Vec.{made};
 ghost use Rattle.bits.specs.Bits.{bits-of};
 ghost use Rattle.std.specs.declared.option.Option.the-variants.{Some, None};
-ghost use Rattle.domain.specs.Layout.{effect-at, effects-at, counted-at, working-at, sensing-at, deed-at, effect-bits, clash-place};
+ghost use Rattle.domain.specs.Layout.{effect-at, effects-at, counted-at, working-at, sensing-at, deed-at, clash-place};
 ghost use Rattle.domain.specs.Rows.{effects-in, deed-in, holds};
 ghost use Rattle.domain.specs.Sheet.{clash, clashes, clash-free};
 use crate::action::Effect;
@@ -18,8 +18,8 @@ use crate::list::count;
 use crate::list::field;
 use crate::list::list;
 use crate::list::literal;
-use crate::list::members;
 use crate::refusal::Refusal;
+use crate::write::effect_len;
 use bits::reader::Reader;
 use bits::width::Width;
 use literals::set::opposite;
@@ -37,12 +37,6 @@ impl Effects {
             }; 8],
             count: 0,
         }
-    }
-
-    pub(crate) fn as_slice(&self) -> &[Effect]
-        ensures { λ r. ⌜ now r ≡ effects-in (now (self .entry)) ⌝ }
-    {
-        &self.rows[0..self.count]
     }
 
     // One effect more.
@@ -97,7 +91,7 @@ fn working(reader: &mut Reader, fluents: u8, action: u8) -> Result<(Effects, u12
 {
     let start = reader.place();
     let (effects, next) = counted(reader, fluents)?;
-    match first_clash(effects.as_slice(), start) {
+    match first_clash(effects.items(), start) {
         Some(place) => Err(Refusal::NotExclusive { action, place }),
         None => Ok((effects, next)),
     }
@@ -114,7 +108,7 @@ fn first_clash(effects: &[Effect], count_place: u128) -> Option<u128>
         if clashes(effect, &effects[0..i]) {
             return Some(place);
         }
-        place += effect_len(effect);
+        place += effect_len(*effect) as u128;
     }
     None
 }
@@ -136,14 +130,6 @@ fn clash(one: &Effect, other: &Effect) -> bool
     ensures { λ r. ⌜ r ≡ clash (now (one .entry)) (now (other .entry)) ⌝ }
 {
     one.literal == opposite(other.literal) && one.conditions & opposites(other.conditions) == 0
-}
-
-// How many bits an effect has.
-fn effect_len(effect: &Effect) -> u128
-    ensures value { λ r. ⌜ r ≡ length (effect-bits (now (effect .entry))) ⌝ }
-    ensures few { λ r. ⌜ r ≤ 400 ⌝ }
-{
-    9 + 6 * u128::from(members(effect.conditions))
 }
 
 // A count of effects and the effects.

@@ -78,7 +78,7 @@ fn groups_len(groups: &[LiteralSet]) -> usize
 }
 
 // How many bits an effect has.
-fn effect_len(effect: Effect) -> usize
+pub(crate) fn effect_len(effect: Effect) -> usize
     ensures value { λ r. ⌜ r ≡ length (effect-bits effect) ⌝ }
     ensures few { λ r. ⌜ r ≤ 406 ⌝ }
 {

@@ -1,6 +1,5 @@
 mod Adding
 mod Exact
-mod Joins
 mod NodeBits
 mod TreeBits
 mod Ways

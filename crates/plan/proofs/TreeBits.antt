@@ -12,13 +12,12 @@ use Rattle.std.proofs.shelf.Tests.{and-parts, and-from, ltb-true, lt-ltb}
 use Rattle.std.specs.declared.result.Result.{Result}
 use Rattle.std.specs.declared.result.Result.the-variants.{Ok, Err}
 use Rattle.bits.specs.Fields.{followed}
-use Rattle.bits.proofs.Laws.{Stands, stands-split, stands-join, both-read, same-answer}
+use Rattle.bits.proofs.Laws.{Stands, stands-split, stands-join, both-read, same-answer, joined-append}
 use Rattle.plan.specs.Layout.{node-at, plan-at, under, ordered, looked, looked-no, node-bits, tree-bits}
 use Rattle.plan.specs.Tree.{Tree, end, order, look, nodes-of, size, depth, small-actions, grown, tree-of}
 use Rattle.plan.specs.declared.node.Node.{Node}
 use Rattle.plan.specs.declared.node.Node.the-variants.{End, Order, Look}
 use Rattle.plan.specs.declared.refusal.Refusal.{Refusal}
-use Rattle.plan.proofs.Joins.{joined-append}
 use Rattle.plan.proofs.NodeBits.{Fits, Read, node-read, node-reads}
 
 -- the bits of a plan, part by part

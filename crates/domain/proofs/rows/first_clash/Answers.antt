@@ -14,7 +14,7 @@ pub loop-i-again : need.loop-i-again
 loop-i-again c =
     let front : c .loop-i .i - 0 ≡ c .loop-i .i = omega arith in
     let none = c .if-clashes .ensures tt in
-    (omega (arith, c .effect-len-place .ensures .few), first-later (c .args .effects .now) (c .loop-i .i) (c .loop-i .place) _ (c .loop-i .inv .1) (c .effect-len-place .result) (c .loop-i-test .taken) (rw front at none) (c .effect-len-place .ensures .value))
+    (omega (arith, c .effect-len .ensures .few), first-later (c .args .effects .now) (c .loop-i .i) (c .loop-i .place) _ (c .loop-i .inv .1) (c .effect-len .result) (c .loop-i-test .taken) (rw front at none) (c .effect-len .ensures .value))
 
 pub returns : need.returns
 returns c =

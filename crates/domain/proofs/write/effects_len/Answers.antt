@@ -1,7 +1,7 @@
 use native.Mathlib.Omega.{arith}
+use Rattle.bits.proofs.Laws.{length-more, length-all}
 use Rattle.domain.specs.Layout.{effect-bits}
 use Rattle.domain.specs.declared.action.Effect.{Effect}
-use Rattle.domain.proofs.Joins.{length-more, length-all}
 use Rattle.domain.proofs.write.effects_len.Needs as need
 
 pub loop-effect-again : need.loop-effect-again

@@ -1,6 +1,6 @@
 use native.Mathlib.Omega.{arith}
+use Rattle.bits.proofs.Laws.{length-more, length-all}
 use Rattle.domain.specs.Lists.{list-bits}
-use Rattle.domain.proofs.Joins.{length-more, length-all}
 use Rattle.domain.proofs.write.groups_len.Needs as need
 
 pub loop-group-again : need.loop-group-again

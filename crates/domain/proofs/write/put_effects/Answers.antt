@@ -4,10 +4,9 @@ use lib.ListN.{drop}
 use Rattle.std.proofs.shelf.Lists.{take-all}
 use Rattle.std.proofs.shelf.Results.{err-from-errBy}
 use Rattle.std.specs.Joined.{joined}
-use Rattle.bits.proofs.Laws.{wrote-then, wrote-refused, wrote-none, wrote-as}
+use Rattle.bits.proofs.Laws.{wrote-then, wrote-refused, wrote-none, wrote-as, joined-take, joined-split}
 use Rattle.domain.specs.Layout.{effect-bits}
 use Rattle.domain.specs.declared.action.Effect.{Effect}
-use Rattle.domain.proofs.Joins.{joined-take, joined-split}
 use Rattle.domain.proofs.write.put_effects.Needs as need
 
 pub loop-effect-holds : need.loop-effect-holds

@@ -4,9 +4,8 @@ use lib.ListN.{drop}
 use Rattle.std.proofs.shelf.Lists.{take-all}
 use Rattle.std.proofs.shelf.Results.{err-from-errBy}
 use Rattle.std.specs.Joined.{joined}
-use Rattle.bits.proofs.Laws.{wrote-then, wrote-refused, wrote-none, wrote-as}
+use Rattle.bits.proofs.Laws.{wrote-then, wrote-refused, wrote-none, wrote-as, joined-take, joined-split}
 use Rattle.domain.specs.Lists.{list-bits}
-use Rattle.domain.proofs.Joins.{joined-take, joined-split}
 use Rattle.domain.proofs.write.put_lists.Needs as need
 
 pub loop-group-holds : need.loop-group-holds

@@ -4,11 +4,10 @@ use lib.ListN.{drop}
 use Rattle.std.proofs.shelf.Lists.{take-all}
 use Rattle.std.proofs.shelf.Results.{err-from-errBy}
 use Rattle.std.specs.Joined.{joined}
-use Rattle.bits.proofs.Laws.{wrote-then, wrote-refused, wrote-none, wrote-as}
+use Rattle.bits.proofs.Laws.{wrote-then, wrote-refused, wrote-none, wrote-as, joined-take, joined-split, joined-map}
 use Rattle.domain.specs.Layout.{action-bits}
 use Rattle.domain.specs.Rows.{action-in}
 use Rattle.domain.proofs.RowParts.{row-bits}
-use Rattle.domain.proofs.Joins.{joined-take, joined-split, joined-map}
 use Rattle.domain.proofs.write.put_rows.Needs as need
 
 pub loop-row-holds : need.loop-row-holds

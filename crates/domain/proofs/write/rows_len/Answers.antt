@@ -1,10 +1,10 @@
 use mathlib.Core.Path.{ap, _∙_}
 use native.Mathlib.Omega.{arith}
 use lib.ListN.{length}
+use Rattle.bits.proofs.Laws.{length-more, length-all, joined-map}
 use Rattle.domain.specs.Layout.{action-bits}
 use Rattle.domain.specs.Rows.{action-in}
 use Rattle.domain.proofs.RowParts.{row-bits}
-use Rattle.domain.proofs.Joins.{length-more, length-all, joined-map}
 use Rattle.domain.proofs.write.rows_len.Needs as need
 
 pub loop-row-again : need.loop-row-again

@@ -7,11 +7,10 @@ use Rattle.std.proofs.shelf.Lists.{take-more, drop-more, take-all}
 use Rattle.std.proofs.shelf.Results.{err-from-errBy}
 use Rattle.std.specs.Joined.{joined}
 use Rattle.bits.specs.Fields.{Wrote}
-use Rattle.bits.proofs.Laws.{wrote-then, wrote-refused, wrote-none, wrote-as}
+use Rattle.bits.proofs.Laws.{wrote-then, wrote-refused, wrote-none, wrote-as, joined-append, joined-take, joined-split}
 use Rattle.plan.specs.Layout.{node-bits}
 use Rattle.plan.specs.declared.node.Node.{Node}
 use Rattle.plan.specs.declared.node.Node.the-variants.{End}
-use Rattle.plan.proofs.Joins.{joined-append, joined-take, joined-split}
 use Rattle.plan.proofs.write.put_nodes.Needs as need
 
 pub loop-node-holds : need.loop-node-holds

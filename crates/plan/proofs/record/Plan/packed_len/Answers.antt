@@ -5,13 +5,12 @@ use lib.ListN.{length, take, getD, length-append}
 use Rattle.std.proofs.shelf.Lists.{take-all}
 use Rattle.std.specs.Joined.{joined}
 use Rattle.bits.specs.Bits.{numeral}
-use Rattle.bits.proofs.Laws.{length-numeral, length-packed}
+use Rattle.bits.proofs.Laws.{length-numeral, length-packed, joined-take}
 use Rattle.plan.specs.Layout.{node-bits, plan-bits, written}
 use Rattle.plan.specs.Plans.{plan-nodes, plan-tree}
 use Rattle.plan.specs.Tree.{nodes-of}
 use Rattle.plan.specs.declared.node.Node.the-variants.{End}
 use Rattle.plan.proofs.Exact.{plan-once}
-use Rattle.plan.proofs.Joins.{joined-take}
 use Rattle.plan.proofs.record.Plan.packed_len.Needs as need
 
 pub loop-node-again : need.loop-node-again
