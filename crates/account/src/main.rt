@@ -23,24 +23,15 @@ const MOST: usize = 4096;
 fn main(rt: LibcRuntime) -> io::Result<()> {
     let mut buffer = [0u8; MOST];
     let count = read_input(&rt, &mut buffer)?;
-    match input::split(&buffer[0..count]) {
-        Ok((domain, plan)) => {
-            print_domain(&rt, domain)?;
-            print_plan(&rt, plan)
-        }
-        Err(refusal) => print!(rt, "{}", InputRefused { refusal }),
+    let (domain, plan) = match input::split(&buffer[0..count]) {
+        Ok(parts) => parts,
+        Err(refusal) => return print!(rt, "{}", InputRefused { refusal }),
+    };
+    match Domain::read(domain) {
+        Ok(domain) => print!(rt, "{}", Sheet { domain: &domain })?,
+        Err(refusal) => print!(rt, "{}", DomainRefused { refusal })?,
     }
-}
-
-fn print_domain(rt: &LibcRuntime, bytes: &[u8]) -> io::Result<()> {
-    match Domain::read(bytes) {
-        Ok(domain) => print!(rt, "{}", Sheet { domain: &domain }),
-        Err(refusal) => print!(rt, "{}", DomainRefused { refusal }),
-    }
-}
-
-fn print_plan(rt: &LibcRuntime, bytes: &[u8]) -> io::Result<()> {
-    match Plan::read(bytes) {
+    match Plan::read(plan) {
         Ok(plan) => print!(rt, "{}", Outline { plan: &plan }),
         Err(refusal) => print!(rt, "{}", PlanRefused { refusal }),
     }

@@ -11,7 +11,7 @@ use Rattle.std.specs.Joined.{joined}
 use Rattle.std.specs.declared.result.Result.the-variants.{Ok, Err}
 use Rattle.bits.specs.Bits.{numeral}
 use Rattle.bits.specs.Fields.{followed}
-use Rattle.bits.proofs.Laws.{length-numeral}
+use Rattle.bits.proofs.Laws.{length-numeral, joined-append}
 use Rattle.literals.specs.Literals.{has, with}
 use Rattle.domain.specs.Lists.{count-at, literal-at, literals-at, list-at, members-from, members}
 use Rattle.domain.specs.declared.refusal.Refusal.{Refusal}
@@ -91,14 +91,9 @@ count-same s i gone =
 
 -- ---- members as bits
 
-joined-append : (xs ys : List ℕ) → joined (numeral 6) (xs ++ ys) ≡ joined (numeral 6) xs ++ joined (numeral 6) ys
-joined-append [] ys = refl
-joined-append (x ∷ xs) ys =
-    ap (λ l. numeral 6 x ++ l) (joined-append xs ys) ∙ sym (append-assoc (numeral 6 x) (joined (numeral 6) xs) (joined (numeral 6) ys))
-
 pub bits-more : (s i : ℕ) → joined (numeral 6) (members-from s i 0) ++ joined (numeral 6) (members-from s 1 i) ≡ joined (numeral 6) (members-from s (i + 1) 0)
 bits-more s i =
-    sym (joined-append (members-from s i 0) (members-from s 1 i)) ∙ ap (joined (numeral 6)) (sym (members-parts s i 1 (i + 1) 0 i refl (omega arith)))
+    sym (joined-append (numeral 6) (members-from s i 0) (members-from s 1 i)) ∙ ap (joined (numeral 6)) (sym (members-parts s i 1 (i + 1) 0 i refl (omega arith)))
 
 -- the members among the literals before one, that one, and those after it
 pub bits-parts : (s i : ℕ) → i < 64
@@ -107,7 +102,7 @@ unfolding members
 bits-parts s i inside =
     sym (append-assoc (joined (numeral 6) (members-from s i 0)) (joined (numeral 6) (members-from s 1 i)) (joined (numeral 6) (members-from s (63 - i) (i + 1))))
     ∙ ap (λ l. l ++ joined (numeral 6) (members-from s (63 - i) (i + 1))) (bits-more s i)
-    ∙ sym (joined-append (members-from s (i + 1) 0) (members-from s (63 - i) (i + 1)))
+    ∙ sym (joined-append (numeral 6) (members-from s (i + 1) 0) (members-from s (63 - i) (i + 1)))
     ∙ ap (joined (numeral 6)) (sym (members-parts s (i + 1) (63 - i) 64 0 (i + 1) (omega arith) (omega arith)))
 
 pub literals-long : (ls : List ℕ) → length (joined (numeral 6) ls) ≡ 6 * length ls

@@ -212,6 +212,23 @@ mod tests {
         check_eq(domain.actions(), 16)?;
         check_eq(domain.effects(15).len(), 8)?;
         check_eq(domain.groups().len(), 8)?;
-        check_eq(answer(&buffer[0..1021]), Err((1, 8168, 0)))
+        check_eq(answer(&buffer[0..1021]), Err((1, 8168, 0)))?;
+        let mut again = [0xff; 1022];
+        check_eq(domain.write(&mut again), Ok(1022))?;
+        check_eq(again, buffer)
+    }
+
+    #[test]
+    fn a_domain_is_written_or_the_buffer_left() -> Result<(), Fail> {
+        let Ok(domain) = Domain::read(&WORKED) else {
+            return Err(Fail::new("refused"));
+        };
+        let mut buffer = [0xaa; 11];
+        check_eq(domain.write(&mut buffer), Ok(10))?;
+        check_eq(&buffer[0..10], &WORKED)?;
+        check_eq(buffer[10], 0xaa).note("the rest of the buffer")?;
+        let mut short = [0xaa; 9];
+        check_eq(domain.write(&mut short), Err(TooShort { needed: 10 }))?;
+        check_eq(short, [0xaa; 9])
     }
 }
