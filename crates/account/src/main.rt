@@ -1,4 +1,6 @@
 // Reads a trial input, a domain and a plan, from standard input and prints an account of both for people.
+#![tactic(auto)]
+
 ghost use Rattle.std.specs.Prelude.{◌≤◌, length, IfOk};
 
 use domain::record::Domain;

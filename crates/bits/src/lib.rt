@@ -1,4 +1,6 @@
 // Bits of lent bytes, most significant first: a reader, a writer, and what they refuse.
+#![tactic(auto)]
+
 pub mod reader;
 pub mod refusal;
 pub mod report;

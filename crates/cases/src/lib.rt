@@ -1,2 +1,4 @@
 // Worked cases of reasoners.
+#![tactic(auto)]
+
 pub mod cases;

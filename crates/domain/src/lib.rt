@@ -1,4 +1,6 @@
 // Domain sheets: the record, and its packed layout read and written.
+#![tactic(auto)]
+
 pub mod action;
 mod list;
 mod read;

@@ -1,4 +1,6 @@
 // The input of the programs: the domain's length in sixteen bits, the domain, the plan.
+#![tactic(auto)]
+
 ghost use Rattle.std.specs.Prelude.{◌≡◌};
 ghost use Rattle.input.specs.Split.{after_length, split_input, bytes_of};
 

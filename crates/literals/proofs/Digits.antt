@@ -7,19 +7,19 @@ use Rattle.std.proofs.lemmas.Bool.{cases_lt}
 use Rattle.std.proofs.lemmas.Bool.Decides.{nat_tests}
 use Rattle.literals.specs.Literals.{bit}
 
-pub bit_and : (k a b : ℕ) → bit (bit_and a b) k ≡ (bit a k && bit b k)
+pub digit_and : (k a b : ℕ) → bit (bit_and a b) k ≡ (bit a k && bit b k)
 unfolding bit
-bit_and zero a b =
+digit_and zero a b =
     let odd : bit_and a b % 2 ≡ min (a % 2) (b % 2) = omega (arith, and_step a b) in
     rw odd (grind (arith, nat_tests))
-bit_and (suc k) a b = rw (and_shr a b 1) (bit_and k (a / 2) (b / 2))
+digit_and (suc k) a b = rw (and_shr a b 1) (digit_and k (a / 2) (b / 2))
 
-pub bit_or : (k a b : ℕ) → bit (bit_or a b) k ≡ (bit a k || bit b k)
+pub digit_or : (k a b : ℕ) → bit (bit_or a b) k ≡ (bit a k || bit b k)
 unfolding bit
-bit_or zero a b =
+digit_or zero a b =
     let odd : bit_or a b % 2 ≡ max (a % 2) (b % 2) = omega (arith, or_step a b) in
     rw odd (grind (arith, nat_tests))
-bit_or (suc k) a b = rw (or_shr a b 1) (bit_or k (a / 2) (b / 2))
+digit_or (suc k) a b = rw (or_shr a b 1) (digit_or k (a / 2) (b / 2))
 
 pub bit-without : (k a b : ℕ) → bit (bit_xor a (bit_and a b)) k ≡ (bit a k && not (bit b k))
 unfolding bit

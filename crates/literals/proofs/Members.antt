@@ -7,7 +7,7 @@ use Rattle.std.proofs.lemmas.Bool.{cases_lt, cases_eq, cases_Bool, cases_order, 
 use Rattle.std.proofs.lemmas.Bool.Decides.{nat_tests}
 use Rattle.literals.specs.Literals.{fluent, opposite, bit, place, literal_at, at_place, has, single, with, without, covers, rotated, opposites, of_first, all, first_from, first, lowest}
 use Rattle.literals.specs.Tables.{told, same}
-use Rattle.literals.proofs.Digits.{bit_and, bit_or, bit-without, bit_zero, same_digits, bit_block, bit_shr, bit_mod, bit_pow, bit_ones, few_ones, no_ones, one_one, ones_pow}
+use Rattle.literals.proofs.Digits.{digit_and, digit_or, bit-without, bit_zero, same_digits, bit_block, bit_shr, bit_mod, bit_pow, bit_ones, few_ones, no_ones, one_one, ones_pow}
 
 -- ---- literals and their places
 
@@ -71,11 +71,11 @@ or_false false = refl
 
 pub has-and : (a b l : ℕ) → has (bit_and a b) l ≡ (has a l && has b l)
 unfolding at_place
-has-and a b l = rw (bit_and (place l) a b) (over_and (ltb (place l) 64) _ _)
+has-and a b l = rw (digit_and (place l) a b) (over_and (ltb (place l) 64) _ _)
 
 pub has-or : (a b l : ℕ) → has (bit_or a b) l ≡ (has a l || has b l)
 unfolding at_place
-has-or a b l = rw (bit_or (place l) a b) (over_or (ltb (place l) 64) _ _)
+has-or a b l = rw (digit_or (place l) a b) (over_or (ltb (place l) 64) _ _)
 
 pub has-without : (s t l : ℕ) → has (without s t) l ≡ (has s l && not (has t l))
 unfolding at_place
@@ -137,7 +137,7 @@ unfolding rotated
 turned s k h =
     let n = s % 2 ^ 64 in
     let up : bit (n * 2 ^ 32) k ≡ cond (ltb k 32) (bit 0 k) (bit n (k - 32)) = let same : n * 2 ^ 32 ≡ n * 2 ^ 32 + 0 = omega arith in rw same (bit_block 32 k n 0 (omega arith)) in
-    rw (bit_or k (n * 2 ^ 32 % 2 ^ 64) (n / 2 ^ 32), bit_mod 64 k (n * 2 ^ 32), bit_shr 32 k n, up, bit_mod 64 (k - 32) s, bit_mod 64 (32 + k) s, bit_zero k)
+    rw (digit_or k (n * 2 ^ 32 % 2 ^ 64) (n / 2 ^ 32), bit_mod 64 k (n * 2 ^ 32), bit_shr 32 k n, up, bit_mod 64 (k - 32) s, bit_mod 64 (32 + k) s, bit_zero k)
     (⊎_elim
     (λ (low : k < 32).
     let inside : ltb k 64 ≡ true = grind (arith, nat_tests) in

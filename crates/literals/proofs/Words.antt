@@ -6,7 +6,7 @@ use Rattle.std.proofs.lemmas.Nat.{one_shl}
 use Rattle.std.proofs.lemmas.Bool.{cases_lt, or_parts, both_ways}
 use Rattle.std.proofs.lemmas.Bool.Decides.{nat_tests}
 use Rattle.literals.specs.Literals.{bit, place, has, of_first, first}
-use Rattle.literals.proofs.Digits.{bit_or, bit_shr, trailing_below, trailing_at}
+use Rattle.literals.proofs.Digits.{digit_or, bit_shr, trailing_below, trailing_at}
 use Rattle.literals.proofs.Members.{has_at, first_is}
 
 -- the digit at a place, by a shift
@@ -37,7 +37,7 @@ abbrev either : ℕ → ℕ
 either s = bit_or s (s / 2 ^ 32)
 
 either_digit : (s f : ℕ) → bit (either s) f ≡ (bit s f || bit s (32 + f))
-either_digit s f = rw (bit_or f s (s / 2 ^ 32), bit_shr 32 f s) refl
+either_digit s f = rw (digit_or f s (s / 2 ^ 32), bit_shr 32 f s) refl
 
 neither : (s m : ℕ) → m < 64 → bit (either s) (m / 2) ≡ false → has s m ≡ false
 neither s m h none =

@@ -1,4 +1,6 @@
 // Domains, plans and refusals as text for people.
+#![tactic(auto)]
+
 pub mod plans;
 pub mod refusals;
 pub mod sheets;

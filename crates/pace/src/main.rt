@@ -1,6 +1,8 @@
 // Asks a reasoner the same question many times, to measure it: 32 orders, and every fluent told false at the end.
 // It is the world reasoner where that takes the domain, and otherwise the history reasoner.
 // Standard input: how often, in two bytes, and a packed domain of 16 actions.
+#![tactic(auto)]
+
 use bits::reader::Reader;
 use bits::width::Width;
 use domain::record::Domain;

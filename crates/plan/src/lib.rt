@@ -1,4 +1,6 @@
 // Conditional plans: the record, and its packed layout read and written.
+#![tactic(auto)]
+
 pub mod node;
 pub mod nodes;
 pub mod read;

@@ -1,4 +1,6 @@
 // Reasoners: what is known of each moment, by whatever way of reasoning.
+#![tactic(auto)]
+
 pub mod effects;
 pub mod reasoner;
 pub mod refusal;

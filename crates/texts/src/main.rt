@@ -1,4 +1,6 @@
 // Prints inputs, domains and plans whose text the worked example does not show: every refusal, groups, effects without conditions.
+#![tactic(auto)]
+
 use domain::record::Domain;
 use input::split;
 use outline::plans::Outline;

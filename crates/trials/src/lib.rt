@@ -1,4 +1,6 @@
 // Tests of the public calls, in a crate of their own so that the crates that they test stay quick to prove.
+#![tactic(auto)]
+
 mod bytes;
 mod domains;
 mod inputs;

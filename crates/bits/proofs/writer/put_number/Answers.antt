@@ -15,7 +15,7 @@ loop-i-preserved c =
     let bit = numeral_at c.args.width.bits c.args.value i (omega arith) in
     let told = rw (left, bit) at c.loop-i.invariant in
     let next : c.args.place + i + 1 ≡ c.args.place + (i + 1) = omega arith in
-    let was = rw (and_mask _ 1, c.from.ensures, c.bits.ensures) at c.put-bit.ensures in
+    let was = rw (and_mask _ 1, c.from.ensures, c.bits.ensures) at c.put_bit.ensures in
     rw (was, ← next) told
 
 pub returns : goal.returns

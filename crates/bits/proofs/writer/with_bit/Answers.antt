@@ -9,8 +9,8 @@ sum_is : (c : After-from-2) → (c.from.result / 2 ^ (8 - c.args.at) * 2 ^ (8 - 
 sum_is c =
     rw (c.from.ensures, c.from-2.ensures) (with_bit_is c.args.byte c.args.at c.args.bit (omega arith) (omega arith))
 
-pub overflow-cast-result-2 : goal.overflow-cast-result-2
-overflow-cast-result-2 c = omega (arith, sum_is c, with_bit_below c.args.byte c.args.at c.args.bit (omega arith))
+pub overflow_cast-result-2 : goal.overflow_cast-result-2
+overflow_cast-result-2 c = omega (arith, sum_is c, with_bit_below c.args.byte c.args.at c.args.bit (omega arith))
 
 pub returns : goal.returns
 returns c = sum_is c

@@ -11,14 +11,14 @@ loop-i-init c =
     let all : c.args.count - 0 ≡ c.args.count = omega arith in
     (refl, ap (λ n. literals_at n (bits_of c.args.reader.now.bytes.now) c.args.fluents 0 0 c.args.reader.now.place) all)
 
-pub returns-in-err-next : goal.returns-in-err-next
-returns-in-err-next c =
-    let p = err_from_is_err_and c.from-residual.result c.from-residual.ensures.1 in
+pub returns-in_err-next : goal.returns-in_err-next
+returns-in_err-next c =
+    let p = err_from_is_err_and c.from_residual.result c.from_residual.ensures.1 in
     let bits = bits_of c.args.reader.now.bytes.now in
     let at = c.loop-i.reader.place in
-    let refused : literal_at bits c.args.fluents c.loop-i.least at ≡ Err c.in-err-next.field-0.0 =
-    ap (λ b. literal_at (bits_of b.now) c.args.fluents c.loop-i.least at) (sym c.loop-i.invariant.0) ∙ sym c.literal.ensures.value ∙ c.in-err-next.was in
-    let told = literals_refused bits c.args.fluents (c.args.count - c.loop-i.-i) (c.args.count - (c.loop-i.-i + 1)) c.loop-i.least c.loop-i.set at c.in-err-next.field-0.0 (omega arith) refused in
+    let refused : literal_at bits c.args.fluents c.loop-i.least at ≡ Err c.in_err-next.field-0.0 =
+    ap (λ b. literal_at (bits_of b.now) c.args.fluents c.loop-i.least at) (sym c.loop-i.invariant.0) ∙ sym c.literal.ensures.value ∙ c.in_err-next.was in
+    let told = literals_refused bits c.args.fluents (c.args.count - c.loop-i.-i) (c.args.count - (c.loop-i.-i + 1)) c.loop-i.least c.loop-i.set at c.in_err-next.field-0.0 (omega arith) refused in
     rw (p.1, p.2) (record {
       value = sym told ∙ c.loop-i.invariant.1;
       bytes = c.literal.ensures.bytes ∙ c.loop-i.invariant.0;
@@ -30,15 +30,15 @@ loop-i-preserved c =
     let bits = bits_of c.args.reader.now.bytes.now in
     let fluents = c.args.fluents in
     let at = c.loop-i.reader.place in
-    let l = c.in-ok-next.next in
-    let q = c.in-ok-next.field-0-1 in
+    let l = c.in_ok-next.next in
+    let q = c.in_ok-next.field-0-1 in
     let left = c.args.count - (c.loop-i.-i + 1) in
     let read : literal_at bits fluents c.loop-i.least at ≡ Ok (l, q) =
-    ap (λ b. literal_at (bits_of b.now) fluents c.loop-i.least at) (sym c.loop-i.invariant.0) ∙ sym c.literal.ensures.value ∙ c.in-ok-next.was in
+    ap (λ b. literal_at (bits_of b.now) fluents c.loop-i.least at) (sym c.loop-i.invariant.0) ∙ sym c.literal.ensures.value ∙ c.in_ok-next.was in
     let told = literals_step bits fluents (c.args.count - c.loop-i.-i) left c.loop-i.least c.loop-i.set at l q (omega arith) read in (
       c.literal.ensures.bytes ∙ c.loop-i.invariant.0,
       ap (λ s. literals_at left bits fluents ((l / 2 + 1) * 2) s c.literal.new.reader.place) c.with-set.ensures
-          ∙ ap (λ r. literals_at left bits fluents ((l / 2 + 1) * 2) (with c.loop-i.set l) r) c.in-ok-next.ensures.place
+          ∙ ap (λ r. literals_at left bits fluents ((l / 2 + 1) * 2) (with c.loop-i.set l) r) c.in_ok-next.ensures.place
           ∙ sym told ∙ c.loop-i.invariant.1,
     )
 

@@ -8,8 +8,8 @@ pub loop-literal-init : goal.loop-literal-init
 unfolding members_from
 loop-literal-init c = refl
 
-pub overflow-add-count : goal.overflow-add-count
-overflow-add-count c = omega (arith, members_few c.args.set c.loop-literal.literal 0)
+pub overflow_add-count : goal.overflow_add-count
+overflow_add-count c = omega (arith, members_few c.args.set c.loop-literal.literal 0)
 
 pub loop-literal-preserved : goal.loop-literal-preserved
 loop-literal-preserved c =

@@ -6,13 +6,13 @@ use Rattle.bits.proofs.Laws.{wrote_then, wrote_refused, wrote_as}
 use Rattle.domain.specs.Lists.{members, list_bits}
 use Rattle.domain.proofs.list.put_list.Goals as goal
 
-pub returns-in-err-put : goal.returns-in-err-put
+pub returns-in_err-put : goal.returns-in_err-put
 unfolding list_bits
-returns-in-err-put c =
-    let p = err_from_is_err_and c.from-residual.result c.from-residual.ensures.1 in
+returns-in_err-put c =
+    let p = err_from_is_err_and c.from_residual.result c.from_residual.ensures.1 in
     let count : numeral c.args.width.bits c.from.result ≡ numeral c.args.width.bits (length (members c.args.set)) = ap (numeral c.args.width.bits) (c.from.ensures ∙ c.members.ensures.value) in
     rw p.1 (record {
-      wrote = wrote_refused (flat_map (numeral 6) (members c.args.set)) (wrote_as count c.in-err-put.ensures.wrote);
+      wrote = wrote_refused (flat_map (numeral 6) (members c.args.set)) (wrote_as count c.in_err-put.ensures.wrote);
       name = c.put.ensures.name;
     })
 
@@ -21,6 +21,6 @@ unfolding list_bits
 returns c =
     let count : numeral c.args.width.bits c.from.result ≡ numeral c.args.width.bits (length (members c.args.set)) = ap (numeral c.args.width.bits) (c.from.ensures ∙ c.members.ensures.value) in
     record {
-      wrote = wrote_then (wrote_as count c.in-ok-put.ensures.wrote) c.put-members.ensures.wrote;
-      name = c.put-members.ensures.name ∙ c.put.ensures.name;
+      wrote = wrote_then (wrote_as count c.in_ok-put.ensures.wrote) c.put_members.ensures.wrote;
+      name = c.put_members.ensures.name ∙ c.put.ensures.name;
     }

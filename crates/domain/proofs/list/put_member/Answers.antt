@@ -4,18 +4,18 @@ use Rattle.bits.proofs.Laws.{wrote_none, wrote_as}
 use Rattle.domain.proofs.ListSteps.{member_bits, no_bits}
 use Rattle.domain.proofs.list.put_member.Goals as goal
 
-pub returns-in-err-put : goal.returns-in-err-put
-returns-in-err-put c =
-    let p = err_from_is_err_and c.from-residual.result c.from-residual.ensures.1 in
+pub returns-in_err-put : goal.returns-in_err-put
+returns-in_err-put c =
+    let p = err_from_is_err_and c.from_residual.result c.from_residual.ensures.1 in
     rw p.1 (record {
-      wrote = wrote_as (member_bits c.args.set c.args.literal c.from.result c.if-contains.ensures.value c.from.ensures) c.in-err-put.ensures.wrote;
+      wrote = wrote_as (member_bits c.args.set c.args.literal c.from.result c.if-contains.ensures.value c.from.ensures) c.in_err-put.ensures.wrote;
       name = c.put.ensures.name;
     })
 
-pub returns-in-ok-put : goal.returns-in-ok-put
-returns-in-ok-put c =
+pub returns-in_ok-put : goal.returns-in_ok-put
+returns-in_ok-put c =
     record {
-      wrote = wrote_as (member_bits c.args.set c.args.literal c.from.result c.if-contains.ensures.value c.from.ensures) c.in-ok-put.ensures.wrote;
+      wrote = wrote_as (member_bits c.args.set c.args.literal c.from.result c.if-contains.ensures.value c.from.ensures) c.in_ok-put.ensures.wrote;
       name = c.put.ensures.name;
     }
 

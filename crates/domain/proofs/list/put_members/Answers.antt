@@ -11,21 +11,21 @@ pub loop-literal-init : goal.loop-literal-init
 unfolding members_from
 loop-literal-init c = (refl, wrote_none _ _)
 
-pub returns-in-err-put-member : goal.returns-in-err-put-member
-returns-in-err-put-member c =
-    let p = err_from_is_err_and c.from-residual.result c.from-residual.ensures.1 in
+pub returns-in_err-put_member : goal.returns-in_err-put_member
+returns-in_err-put_member c =
+    let p = err_from_is_err_and c.from_residual.result c.from_residual.ensures.1 in
     let set = c.args.set in
     let i = c.loop-literal.literal in
-    let stopped = wrote_then c.loop-literal.invariant.1 (wrote_refused (flat_map (numeral 6) (members_from set (63 - i) (i + 1))) c.in-err-put-member.ensures.wrote) in
+    let stopped = wrote_then c.loop-literal.invariant.1 (wrote_refused (flat_map (numeral 6) (members_from set (63 - i) (i + 1))) c.in_err-put_member.ensures.wrote) in
     rw p.1 (record {
       wrote = wrote_as (bits_parts set i c.loop-literal-test.true) stopped;
-      name = c.put-member.ensures.name ∙ c.loop-literal.invariant.0;
+      name = c.put_member.ensures.name ∙ c.loop-literal.invariant.0;
     })
 
 pub loop-literal-preserved : goal.loop-literal-preserved
 loop-literal-preserved c = (
-  c.put-member.ensures.name ∙ c.loop-literal.invariant.0,
-  wrote_as (bits_more c.args.set c.loop-literal.literal) (wrote_then c.loop-literal.invariant.1 c.in-ok-put-member.ensures.wrote),
+  c.put_member.ensures.name ∙ c.loop-literal.invariant.0,
+  wrote_as (bits_more c.args.set c.loop-literal.literal) (wrote_then c.loop-literal.invariant.1 c.in_ok-put_member.ensures.wrote),
 )
 
 pub returns : goal.returns

@@ -6,10 +6,10 @@ use Rattle.domain.specs.Rows.{action_in, holds}
 use Rattle.domain.proofs.Items.{action_items, items_more, items_stop, items_done, read_here}
 use Rattle.domain.proofs.read.rows.Goals as goal
 
-pub returns-in-err-next : goal.returns-in-err-next
-returns-in-err-next c =
-    let p = err_from_is_err_and c.from-residual.result c.from-residual.ensures.1 in
-    let read = read_here (λ bits. action_at bits c.args.fluents c.loop-action.action c.loop-action.reader.place) c.row.ensures.value c.loop-action.invariant.1 ∙ ap (holds action_in) c.in-err-next.was in
+pub returns-in_err-next : goal.returns-in_err-next
+returns-in_err-next c =
+    let p = err_from_is_err_and c.from_residual.result c.from_residual.ensures.1 in
+    let read = read_here (λ bits. action_at bits c.args.fluents c.loop-action.action c.loop-action.reader.place) c.row.ensures.value c.loop-action.invariant.1 ∙ ap (holds action_in) c.in_err-next.was in
     rw (p.1, p.2) (record {
       value = items_stop (action_items (bits_of c.args.reader.now.bytes.now) c.args.fluents) c.args.count c.loop-action.action _ _ _ _ c.loop-action.invariant.2 _ c.loop-action-test.true read;
       bytes = c.row.ensures.bytes ∙ c.loop-action.invariant.1;
@@ -18,9 +18,9 @@ returns-in-err-next c =
 
 pub loop-action-preserved : goal.loop-action-preserved
 loop-action-preserved c =
-    let read = read_here (λ bits. action_at bits c.args.fluents c.loop-action.action c.loop-action.reader.place) c.row.ensures.value c.loop-action.invariant.1 ∙ ap (holds action_in) c.in-ok-next.was in
+    let read = read_here (λ bits. action_at bits c.args.fluents c.loop-action.action c.loop-action.reader.place) c.row.ensures.value c.loop-action.invariant.1 ∙ ap (holds action_in) c.in_ok-next.was in
     let more = items_more (action_items (bits_of c.args.reader.now.bytes.now) c.args.fluents) c.args.count c.loop-action.action _ _ _ _ c.loop-action.invariant.2 _ _ c.loop-action-test.true read in
-    (c.push.ensures.count ∙ ap (λ k. k + 1) c.loop-action.invariant.0, c.row.ensures.bytes ∙ c.loop-action.invariant.1, rw (c.push.ensures.rows, c.in-ok-next.ensures.place) more)
+    (c.push.ensures.count ∙ ap (λ k. k + 1) c.loop-action.invariant.0, c.row.ensures.bytes ∙ c.loop-action.invariant.1, rw (c.push.ensures.rows, c.in_ok-next.ensures.place) more)
 
 pub returns : goal.returns
 returns c =

@@ -23,10 +23,10 @@ sheet_as {r} h b p = sym (subst₂ (λ x y. r ≡ sheet_at (bits_of x.now) y) b 
 ending_as : (p q : ℕ) {r : Result (Unit {0}) bits.Refusal} {b b' : Bor (List ℕ)} → r ≡ ending (bits_of b.now) p → b ≡ b' → p ≡ q → ending (bits_of b'.now) q ≡ r
 ending_as p q {r} h b k = sym (subst₂ (λ x y. r ≡ ending (bits_of x.now) y) b k h)
 
-pub returns-in-err-edition : goal.returns-in-err-edition
-returns-in-err-edition c =
-    let p = err_from_is_err_and c.from-residual.result c.from-residual.ensures.1 in
-    let field = edition_as c.field.ensures.value c.new-reader.ensures.bytes c.new-reader.ensures.place ∙ c.in-err-edition.was in
+pub returns-in_err-edition : goal.returns-in_err-edition
+returns-in_err-edition c =
+    let p = err_from_is_err_and c.from_residual.result c.from_residual.ensures.1 in
+    let field = edition_as c.field.ensures.value c.new-reader.ensures.bytes c.new-reader.ensures.place ∙ c.in_err-edition.was in
     rw (p.1, p.2) (record {
       value = sym (edition_unread c.args.bytes.now _ field);
       lawful = tt;
@@ -35,32 +35,32 @@ returns-in-err-edition c =
 
 pub returns-then-edition-ne1 : goal.returns-then-edition-ne1
 returns-then-edition-ne1 c =
-    let field = edition_as c.field.ensures.value c.new-reader.ensures.bytes c.new-reader.ensures.place ∙ c.in-ok-edition.was in
+    let field = edition_as c.field.ensures.value c.new-reader.ensures.bytes c.new-reader.ensures.place ∙ c.in_ok-edition.was in
     record {
       value = sym (wrong_edition c.args.bytes.now _ _ field c.if-edition-ne1.true);
       lawful = tt;
       exact = reads_exactly _ (λ i. (c.type-inv.bytes i).fits);
     }
 
-pub returns-in-err-parts : goal.returns-in-err-parts
-returns-in-err-parts c =
-    let p = err_from_is_err_and c.from-residual-in-err-parts.result c.from-residual-in-err-parts.ensures.1 in
-    let field = edition_as c.field.ensures.value c.new-reader.ensures.bytes c.new-reader.ensures.place ∙ c.in-ok-edition.was in
+pub returns-in_err-parts : goal.returns-in_err-parts
+returns-in_err-parts c =
+    let p = err_from_is_err_and c.from_residual-in_err-parts.result c.from_residual-in_err-parts.ensures.1 in
+    let field = edition_as c.field.ensures.value c.new-reader.ensures.bytes c.new-reader.ensures.place ∙ c.in_ok-edition.was in
     let same = c.field.ensures.bytes ∙ c.new-reader.ensures.bytes in
-    let sheet = sheet_as c.sheet.ensures.value same c.in-ok-edition.ensures.place ∙ ap (holds parts_sheet) c.in-err-parts.was in
+    let sheet = sheet_as c.sheet.ensures.value same c.in_ok-edition.ensures.place ∙ ap (holds parts_sheet) c.in_err-parts.was in
     rw (p.1, p.2) (record {
       value = sym (sheet_refused c.args.bytes.now _ _ _ field c.if-edition-ne1.false sheet);
       lawful = tt;
       exact = reads_exactly _ (λ i. (c.type-inv.bytes i).fits);
     })
 
-pub returns-in-err-finish : goal.returns-in-err-finish
-returns-in-err-finish c =
-    let p = err_from_is_err_and c.from-residual-in-err-finish.result c.from-residual-in-err-finish.ensures.1 in
-    let field = edition_as c.field.ensures.value c.new-reader.ensures.bytes c.new-reader.ensures.place ∙ c.in-ok-edition.was in
+pub returns-in_err-finish : goal.returns-in_err-finish
+returns-in_err-finish c =
+    let p = err_from_is_err_and c.from_residual-in_err-finish.result c.from_residual-in_err-finish.ensures.1 in
+    let field = edition_as c.field.ensures.value c.new-reader.ensures.bytes c.new-reader.ensures.place ∙ c.in_ok-edition.was in
     let same = c.field.ensures.bytes ∙ c.new-reader.ensures.bytes in
-    let sheet = sheet_as c.sheet.ensures.value same c.in-ok-edition.ensures.place ∙ ap (holds parts_sheet) c.in-ok-parts.was in
-    let last = ending_as c.sheet.new.reader.place _ c.finish.ensures (c.sheet.ensures.bytes ∙ same) c.in-ok-parts.ensures.place ∙ c.in-err-finish.was in
+    let sheet = sheet_as c.sheet.ensures.value same c.in_ok-edition.ensures.place ∙ ap (holds parts_sheet) c.in_ok-parts.was in
+    let last = ending_as c.sheet.new.reader.place _ c.finish.ensures (c.sheet.ensures.bytes ∙ same) c.in_ok-parts.ensures.place ∙ c.in_err-finish.was in
     rw (p.1, p.2) (record {
       value = sym (all_read c.args.bytes.now _ _ _ _ field c.if-edition-ne1.false sheet last);
       lawful = tt;
@@ -69,10 +69,10 @@ returns-in-err-finish c =
 
 pub returns : goal.returns
 returns c =
-    let field = edition_as c.field.ensures.value c.new-reader.ensures.bytes c.new-reader.ensures.place ∙ c.in-ok-edition.was in
+    let field = edition_as c.field.ensures.value c.new-reader.ensures.bytes c.new-reader.ensures.place ∙ c.in_ok-edition.was in
     let same = c.field.ensures.bytes ∙ c.new-reader.ensures.bytes in
-    let sheet = sheet_as c.sheet.ensures.value same c.in-ok-edition.ensures.place ∙ ap (holds parts_sheet) c.in-ok-parts.was in
-    let last = ending_as c.sheet.new.reader.place _ c.finish.ensures (c.sheet.ensures.bytes ∙ same) c.in-ok-parts.ensures.place ∙ c.in-ok-finish.was in
+    let sheet = sheet_as c.sheet.ensures.value same c.in_ok-edition.ensures.place ∙ ap (holds parts_sheet) c.in_ok-parts.was in
+    let last = ending_as c.sheet.new.reader.place _ c.finish.ensures (c.sheet.ensures.bytes ∙ same) c.in_ok-parts.ensures.place ∙ c.in_ok-finish.was in
     let read = all_read c.args.bytes.now _ _ _ _ field c.if-edition-ne1.false sheet last in
     record {
       value = sym read;

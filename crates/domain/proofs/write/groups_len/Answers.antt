@@ -5,7 +5,7 @@ use Rattle.domain.proofs.write.groups_len.Goals as goal
 
 pub loop-group-preserved : goal.loop-group-preserved
 loop-group-preserved c =
-    (length_more (list_bits 4) c.args.groups.now c.loop-group.group_index 0 _ _ c.loop-group-test.true c.loop-group.invariant.0 c.list-len-bits.ensures.value, omega (arith, c.list-len-bits.ensures.few, c.loop-group.invariant.1))
+    (length_more (list_bits 4) c.args.groups.now c.loop-group.group_index 0 _ _ c.loop-group-test.true c.loop-group.invariant.0 c.list_len-bits.ensures.value, omega (arith, c.list_len-bits.ensures.few, c.loop-group.invariant.1))
 
 pub returns : goal.returns
 returns c =

@@ -9,9 +9,9 @@ use Rattle.domain.proofs.write.kind_len.Goals as goal
 pub returns-in-Working : goal.returns-in-Working
 returns-in-Working c =
     let es = effects_in c.in-Working.effects in
-    let told = c.effects-len.ensures.value ∙ ap (λ l. length (flat_map effect_bits l)) c.items.ensures in
+    let told = c.effects_len.ensures.value ∙ ap (λ l. length (flat_map effect_bits l)) c.items.ensures in
     let long = length-append (numeral 4 (length es)) (flat_map effect_bits es) in
-    record { value = rw c.in-Working.is (omega (arith, length-numeral 4 (length es))); few = omega (arith, c.effects-len.ensures.few) }
+    record { value = rw c.in-Working.is (omega (arith, length-numeral 4 (length es))); few = omega (arith, c.effects_len.ensures.few) }
 
 pub returns-in-Sensing : goal.returns-in-Sensing
 returns-in-Sensing c = record { value = rw c.in-Sensing.is (sym (length-numeral 5 c.in-Sensing.fluent)); few = omega arith }

@@ -8,39 +8,39 @@ use Rattle.domain.specs.Rows.{actions_in}
 use Rattle.domain.proofs.RowParts.{facts_bits, lawful-counts}
 use Rattle.domain.proofs.write.put_domain.Goals as goal
 
-pub overflow-sub-fluents : goal.overflow-sub-fluents
-overflow-sub-fluents c = omega (arith, c.fluents.ensures, (lawful-counts (sheet c.args.domain.now) c.args.domain.now.lawful).0)
+pub overflow_sub-fluents : goal.overflow_sub-fluents
+overflow_sub-fluents c = omega (arith, c.fluents.ensures, (lawful-counts (sheet c.args.domain.now) c.args.domain.now.lawful).0)
 
-pub overflow-sub-actions : goal.overflow-sub-actions
-overflow-sub-actions c = omega (arith, c.actions.ensures, (lawful-counts (sheet c.args.domain.now) c.args.domain.now.lawful).1)
+pub overflow_sub-actions : goal.overflow_sub-actions
+overflow_sub-actions c = omega (arith, c.actions.ensures, (lawful-counts (sheet c.args.domain.now) c.args.domain.now.lawful).1)
 
-pub returns-in-err-put : goal.returns-in-err-put
-returns-in-err-put c =
-    let p = err_from_is_err_and c.from-residual.result c.from-residual.ensures.1 in
+pub returns-in_err-put : goal.returns-in_err-put
+returns-in_err-put c =
+    let p = err_from_is_err_and c.from_residual.result c.from_residual.ensures.1 in
     rw p.1 (record {
-      filled = λ start. wrote_all start (wrote_refused (sheet_bits (sheet c.args.domain.now)) c.in-err-put.ensures.wrote);
+      filled = λ start. wrote_all start (wrote_refused (sheet_bits (sheet c.args.domain.now)) c.in_err-put.ensures.wrote);
       name = c.put.ensures.name;
     })
 
-pub returns-in-err-put-2 : goal.returns-in-err-put-2
-returns-in-err-put-2 c =
-    let p = err_from_is_err_and c.from-residual-in-err-put-2.result c.from-residual-in-err-put-2.ensures.1 in
+pub returns-in_err-put-2 : goal.returns-in_err-put-2
+returns-in_err-put-2 c =
+    let p = err_from_is_err_and c.from_residual-in_err-put-2.result c.from_residual-in_err-put-2.ensures.1 in
     rw p.1 (record {
-      filled = λ start. wrote_all start (wrote_then c.in-ok-put.ensures.wrote (wrote_refused (numeral 4 (length (actions_in c.args.domain.now.rows) - 1) ++ facts_bits (sheet c.args.domain.now)) (wrote_as (ap (numeral 5) (c.from.ensures ∙ ap (λ k. k - 1) c.fluents.ensures)) c.in-err-put-2.ensures.wrote)));
+      filled = λ start. wrote_all start (wrote_then c.in_ok-put.ensures.wrote (wrote_refused (numeral 4 (length (actions_in c.args.domain.now.rows) - 1) ++ facts_bits (sheet c.args.domain.now)) (wrote_as (ap (numeral 5) (c.from.ensures ∙ ap (λ k. k - 1) c.fluents.ensures)) c.in_err-put-2.ensures.wrote)));
       name = c.put-2.ensures.name ∙ c.put.ensures.name;
     })
 
-pub returns-in-err-put-3 : goal.returns-in-err-put-3
-returns-in-err-put-3 c =
-    let p = err_from_is_err_and c.from-residual-in-err-put-3.result c.from-residual-in-err-put-3.ensures.1 in
+pub returns-in_err-put-3 : goal.returns-in_err-put-3
+returns-in_err-put-3 c =
+    let p = err_from_is_err_and c.from_residual-in_err-put-3.result c.from_residual-in_err-put-3.ensures.1 in
     rw p.1 (record {
-      filled = λ start. wrote_all start (wrote_then c.in-ok-put.ensures.wrote (wrote_then (wrote_as (ap (numeral 5) (c.from.ensures ∙ ap (λ k. k - 1) c.fluents.ensures)) c.in-ok-put-2.ensures.wrote) (wrote_refused (facts_bits (sheet c.args.domain.now)) (wrote_as (ap (numeral 4) (c.from-2.ensures ∙ ap (λ k. k - 1) c.actions.ensures)) c.in-err-put-3.ensures.wrote))));
+      filled = λ start. wrote_all start (wrote_then c.in_ok-put.ensures.wrote (wrote_then (wrote_as (ap (numeral 5) (c.from.ensures ∙ ap (λ k. k - 1) c.fluents.ensures)) c.in_ok-put-2.ensures.wrote) (wrote_refused (facts_bits (sheet c.args.domain.now)) (wrote_as (ap (numeral 4) (c.from-2.ensures ∙ ap (λ k. k - 1) c.actions.ensures)) c.in_err-put-3.ensures.wrote))));
       name = c.put-3.ensures.name ∙ c.put-2.ensures.name ∙ c.put.ensures.name;
     })
 
 pub returns : goal.returns
 returns c =
     record {
-      filled = λ start. wrote_all start (wrote_then c.in-ok-put.ensures.wrote (wrote_then (wrote_as (ap (numeral 5) (c.from.ensures ∙ ap (λ k. k - 1) c.fluents.ensures)) c.in-ok-put-2.ensures.wrote) (wrote_then (wrote_as (ap (numeral 4) (c.from-2.ensures ∙ ap (λ k. k - 1) c.actions.ensures)) c.in-ok-put-3.ensures.wrote) c.put-facts.ensures.wrote)));
-      name = c.put-facts.ensures.name ∙ c.put-3.ensures.name ∙ c.put-2.ensures.name ∙ c.put.ensures.name;
+      filled = λ start. wrote_all start (wrote_then c.in_ok-put.ensures.wrote (wrote_then (wrote_as (ap (numeral 5) (c.from.ensures ∙ ap (λ k. k - 1) c.fluents.ensures)) c.in_ok-put-2.ensures.wrote) (wrote_then (wrote_as (ap (numeral 4) (c.from-2.ensures ∙ ap (λ k. k - 1) c.actions.ensures)) c.in_ok-put-3.ensures.wrote) c.put_facts.ensures.wrote)));
+      name = c.put_facts.ensures.name ∙ c.put-3.ensures.name ∙ c.put-2.ensures.name ∙ c.put.ensures.name;
     }

@@ -10,16 +10,16 @@ use Rattle.domain.proofs.write.put_effects.Goals as goal
 pub loop-effect-init : goal.loop-effect-init
 loop-effect-init c = (refl, wrote_none _ _)
 
-pub returns-in-err-put-effect : goal.returns-in-err-put-effect
-returns-in-err-put-effect c =
-    let p = err_from_is_err_and c.from-residual.result c.from-residual.ensures.1 in
+pub returns-in_err-put_effect : goal.returns-in_err-put_effect
+returns-in_err-put_effect c =
+    let p = err_from_is_err_and c.from_residual.result c.from_residual.ensures.1 in
     let xs = c.args.effects.now in
     let i = c.loop-effect.effect-index in
     let none : Effect = record { conditions = 0; literal = 0 } in
-    let stopped = wrote_then c.loop-effect.invariant.1 (wrote_refused (flat_map effect_bits (drop (i + 1) xs)) c.in-err-put-effect.ensures.wrote) in
+    let stopped = wrote_then c.loop-effect.invariant.1 (wrote_refused (flat_map effect_bits (drop (i + 1) xs)) c.in_err-put_effect.ensures.wrote) in
     rw p.1 (record {
       wrote = wrote_as (joined_split effect_bits xs i none c.loop-effect-test.true) stopped;
-      name = c.put-effect.ensures.name ∙ c.loop-effect.invariant.0;
+      name = c.put_effect.ensures.name ∙ c.loop-effect.invariant.0;
     })
 
 pub loop-effect-preserved : goal.loop-effect-preserved
@@ -27,7 +27,7 @@ loop-effect-preserved c =
     let xs = c.args.effects.now in
     let i = c.loop-effect.effect-index in
     let none : Effect = record { conditions = 0; literal = 0 } in
-    (c.put-effect.ensures.name ∙ c.loop-effect.invariant.0, wrote_as (joined-take effect_bits xs i none c.loop-effect-test.true) (wrote_then c.loop-effect.invariant.1 c.in-ok-put-effect.ensures.wrote))
+    (c.put_effect.ensures.name ∙ c.loop-effect.invariant.0, wrote_as (joined-take effect_bits xs i none c.loop-effect-test.true) (wrote_then c.loop-effect.invariant.1 c.in_ok-put_effect.ensures.wrote))
 
 pub returns : goal.returns
 returns c =

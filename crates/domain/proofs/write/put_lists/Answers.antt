@@ -9,22 +9,22 @@ use Rattle.domain.proofs.write.put_lists.Goals as goal
 pub loop-group-init : goal.loop-group-init
 loop-group-init c = (refl, wrote_none _ _)
 
-pub returns-in-err-put-list : goal.returns-in-err-put-list
-returns-in-err-put-list c =
-    let p = err_from_is_err_and c.from-residual.result c.from-residual.ensures.1 in
+pub returns-in_err-put_list : goal.returns-in_err-put_list
+returns-in_err-put_list c =
+    let p = err_from_is_err_and c.from_residual.result c.from_residual.ensures.1 in
     let xs = c.args.groups.now in
     let i = c.loop-group.group_index in
-    let stopped = wrote_then c.loop-group.invariant.1 (wrote_refused (flat_map (list_bits 4) (drop (i + 1) xs)) c.in-err-put-list.ensures.wrote) in
+    let stopped = wrote_then c.loop-group.invariant.1 (wrote_refused (flat_map (list_bits 4) (drop (i + 1) xs)) c.in_err-put_list.ensures.wrote) in
     rw p.1 (record {
       wrote = wrote_as (joined_split (list_bits 4) xs i 0 c.loop-group-test.true) stopped;
-      name = c.put-list.ensures.name ∙ c.loop-group.invariant.0;
+      name = c.put_list.ensures.name ∙ c.loop-group.invariant.0;
     })
 
 pub loop-group-preserved : goal.loop-group-preserved
 loop-group-preserved c =
     let xs = c.args.groups.now in
     let i = c.loop-group.group_index in
-    (c.put-list.ensures.name ∙ c.loop-group.invariant.0, wrote_as (joined-take (list_bits 4) xs i 0 c.loop-group-test.true) (wrote_then c.loop-group.invariant.1 c.in-ok-put-list.ensures.wrote))
+    (c.put_list.ensures.name ∙ c.loop-group.invariant.0, wrote_as (joined-take (list_bits 4) xs i 0 c.loop-group-test.true) (wrote_then c.loop-group.invariant.1 c.in_ok-put_list.ensures.wrote))
 
 pub returns : goal.returns
 returns c =

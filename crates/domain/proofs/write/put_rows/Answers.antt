@@ -11,22 +11,22 @@ use Rattle.domain.proofs.write.put_rows.Goals as goal
 pub loop-row-init : goal.loop-row-init
 loop-row-init c = (refl, wrote_none _ _)
 
-pub returns-in-err-put-row : goal.returns-in-err-put-row
-returns-in-err-put-row c =
-    let p = err_from_is_err_and c.from-residual.result c.from-residual.ensures.1 in
+pub returns-in_err-put_row : goal.returns-in_err-put_row
+returns-in_err-put_row c =
+    let p = err_from_is_err_and c.from_residual.result c.from_residual.ensures.1 in
     let xs = c.args.rows.now in
     let i = c.loop-row.row-index in
-    let stopped = wrote_then c.loop-row.invariant.1 (wrote_refused (flat_map row_bits (drop (i + 1) xs)) (wrote_as (ap row_bits c.row-item.is) c.in-err-put-row.ensures.wrote)) in
+    let stopped = wrote_then c.loop-row.invariant.1 (wrote_refused (flat_map row_bits (drop (i + 1) xs)) (wrote_as (ap row_bits c.row-item.is) c.in_err-put_row.ensures.wrote)) in
     rw p.1 (record {
       wrote = wrote_as (joined_split row_bits xs i c.row-item.result c.loop-row-test.true ∙ joined-map action_bits action_in xs) stopped;
-      name = c.put-row.ensures.name ∙ c.loop-row.invariant.0;
+      name = c.put_row.ensures.name ∙ c.loop-row.invariant.0;
     })
 
 pub loop-row-preserved : goal.loop-row-preserved
 loop-row-preserved c =
     let xs = c.args.rows.now in
     let i = c.loop-row.row-index in
-    (c.put-row.ensures.name ∙ c.loop-row.invariant.0, wrote_as (joined-take row_bits xs i c.row-item.result c.loop-row-test.true) (wrote_then c.loop-row.invariant.1 (wrote_as (ap row_bits c.row-item.is) c.in-ok-put-row.ensures.wrote)))
+    (c.put_row.ensures.name ∙ c.loop-row.invariant.0, wrote_as (joined-take row_bits xs i c.row-item.result c.loop-row-test.true) (wrote_then c.loop-row.invariant.1 (wrote_as (ap row_bits c.row-item.is) c.in_ok-put_row.ensures.wrote)))
 
 pub returns : goal.returns
 returns c =

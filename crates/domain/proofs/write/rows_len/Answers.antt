@@ -7,7 +7,7 @@ use Rattle.domain.proofs.write.rows_len.Goals as goal
 
 pub loop-row-preserved : goal.loop-row-preserved
 loop-row-preserved c =
-    (length_more row_bits c.args.rows.now c.loop-row.row-index c.row-item.result _ _ c.loop-row-test.true c.loop-row.invariant.0 (c.row-len-bits.ensures.value ∙ ap (λ r. length (row_bits r)) c.row-item.is), omega (arith, c.row-len-bits.ensures.few, c.loop-row.invariant.1))
+    (length_more row_bits c.args.rows.now c.loop-row.row-index c.row-item.result _ _ c.loop-row-test.true c.loop-row.invariant.0 (c.row_len-bits.ensures.value ∙ ap (λ r. length (row_bits r)) c.row-item.is), omega (arith, c.row_len-bits.ensures.few, c.loop-row.invariant.1))
 
 pub returns : goal.returns
 returns c =

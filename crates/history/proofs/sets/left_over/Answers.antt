@@ -8,8 +8,8 @@ pub returns-then-count-eq0 : goal.returns-then-count-eq0
 unfolding left_over
 returns-then-count-eq0 c = rw (sym c.without-left.ensures, eq-eqb _ _ c.if-count-eq0.true) refl
 
-pub overflow-shl-result : goal.overflow-shl-result
-overflow-shl-result c = ones_place c.without-left.result c.without-left.type-inv c.if-count-eq1.true
+pub overflow_shl-result : goal.overflow_shl-result
+overflow_shl-result c = ones_place c.without-left.result c.without-left.type-inv c.if-count-eq1.true
 
 pub returns-then-count-eq1 : goal.returns-then-count-eq1
 unfolding left_over

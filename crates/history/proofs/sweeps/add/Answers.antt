@@ -4,4 +4,4 @@ use Rattle.history.proofs.sweeps.add.Goals as goal
 
 pub returns : goal.returns
 unfolding sweep
-returns c = c.pass.ensures ∙ rw (c.as-slice.ensures, c.put.ensures, c.all-grouped.ensures, c.groups.ensures, c.at.ensures) refl
+returns c = c.pass.ensures ∙ rw (c.as_slice.ensures, c.put.ensures, c.all_grouped.ensures, c.groups.ensures, c.at.ensures) refl

@@ -5,8 +5,8 @@ use Rattle.literals.specs.Literals.{single}
 use Rattle.literals.proofs.Members.{place_below}
 use Rattle.literals.proofs.set.single.Goals as goal
 
-pub overflow-shl-result : goal.overflow-shl-result
-overflow-shl-result c = omega (arith, place_below c.args.literal (omega arith))
+pub overflow_shl-result : goal.overflow_shl-result
+overflow_shl-result c = omega (arith, place_below c.args.literal (omega arith))
 
 pub returns-then-literal-lt64 : goal.returns-then-literal-lt64
 unfolding single

@@ -11,8 +11,8 @@ pub loop-t-preserved : goal.loop-t-preserved
 loop-t-preserved c =
     ap (λ sets. set sets c.loop-t.t c.args.literals) c.loop-t.invariant ∙ filled_more c.loop-t.t c.args.literals (omega arith)
 
-pub invariant-of-result : goal.invariant-of-result
-invariant-of-result c = (
+pub invariant_of-result : goal.invariant_of-result
+invariant_of-result c = (
   ap length c.loop-t.invariant ∙ length-filled c.loop-t.t c.args.literals (omega arith),
   (subst AreSets (sym c.loop-t.invariant) (filled_sets c.loop-t.t c.args.literals (omega arith)), tt),
 )

@@ -13,7 +13,7 @@ returns g c =
     let laws = g.R.Reasoner.laws one.reasoner in
     let other_laws = g.S.Reasoner.laws other.reasoner in
     record {
-      value = c.both-within.ensures;
-      decided = decided m n laws other_laws (state_of one) (state_of other) (askable one.domain one.state.orders one.state.told) (askable other.domain other.state.orders other.state.told) c.both-within.result c.both-within.ensures;
+      value = c.both_within.ensures;
+      decided = decided m n laws other_laws (state_of one) (state_of other) (askable one.domain one.state.orders one.state.told) (askable other.domain other.state.orders other.state.told) c.both_within.result c.both_within.ensures;
       compared = compared m n laws other_laws (state_of one) (state_of other);
     }

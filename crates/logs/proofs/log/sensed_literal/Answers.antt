@@ -9,14 +9,14 @@ at_most_one : (b : Bool) → bool_byte b ≤ 1
 at_most_one true = omega arith
 at_most_one false = omega arith
 
-pub overflow-mul-result : goal.overflow-mul-result
-overflow-mul-result c =
+pub overflow_mul-result : goal.overflow_mul-result
+overflow_mul-result c =
     let d = c.args.domain.now in
     let known = lawful_sensed (sheet d) d.lawful c.args.action c.in-Some.fluent (sym c.sensed.ensures ∙ c.in-Some.is) in
     record { fits = omega (arith, known, (lawful_fluents (sheet d) d.lawful).1) }
 
-pub overflow-add-result : goal.overflow-add-result
-overflow-add-result c =
+pub overflow_add-result : goal.overflow_add-result
+overflow_add-result c =
     let d = c.args.domain.now in
     let known = lawful_sensed (sheet d) d.lawful c.args.action c.in-Some.fluent (sym c.sensed.ensures ∙ c.in-Some.is) in
     record { fits = omega (arith, known, (lawful_fluents (sheet d) d.lawful).1, c.from.ensures, at_most_one c.args.seen) }

@@ -30,7 +30,7 @@ returns-in-Order t c =
     let at = c.args.at in
     let first = sym (drop_more nodes at End c.if-at-nodes.false) in
     let known = c.in-Order.is in
-    let below = c.longest-at-longest.ensures in
+    let below = c.longest_at-longest.ensures in
     record {
       spelled = λ u rest h.
           let is = order_first c.in-Order.action (drop (at + 1) nodes) u rest ((rw known at first) ∙ h) in
@@ -46,8 +46,8 @@ returns-in-Look t c =
     let at = c.args.at in
     let first = sym (drop_more nodes at End c.if-at-nodes.false) in
     let known = c.in-Look.is in
-    let yes_part = c.longest-at-yes.ensures in
-    let no_part = c.longest-at-no.ensures in
+    let yes_part = c.longest_at-yes.ensures in
+    let no_part = c.longest_at-no.ensures in
     record {
       spelled = λ u rest h.
           let is = look_first c.in-Look.action (drop (at + 1) nodes) u rest ((rw known at first) ∙ h) in

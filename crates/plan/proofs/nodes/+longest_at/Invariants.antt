@@ -1,5 +1,5 @@
 use Rattle.std.proofs.Common.{◌-◌, length}
 use Rattle.plan.proofs.nodes.+longest_at.Given as goal
 
-abbrev pub decreases-longest-at : goal.decreases-longest-at
-decreases-longest-at l = length l.nodes.now - l.at
+abbrev pub decreases-longest_at : goal.decreases-longest_at
+decreases-longest_at l = length l.nodes.now - l.at

@@ -4,7 +4,7 @@ use Rattle.plan.specs.declared.node.Node.{Node}
 use Rattle.plan.specs.declared.node.Node.TheVariants.{End, Order, Look}
 use Rattle.plan.proofs.Ways.{end_count, end_count_nodes, end_count_more}
 use Rattle.plan.proofs.nodes.count_ends.Goals as goal
-use Rattle.plan.proofs.nodes.count_ends.Goals.{in-End, in-default}
+use Rattle.plan.proofs.nodes.count_ends.Goals.{in-End, in_default}
 
 -- a node that is no end does not count
 others : (node : Node) → (node ≡ End → ⊥) → end_count (node ∷ []) ≡ 0
@@ -18,7 +18,7 @@ loop-node-preserved c =
     let more = end_count_more c.args.nodes.now c.loop-node.node-index c.loop-node-test.true in
     elim c.match-node.branch [
       | in-End w ↦ let one : end_count (node ∷ []) ≡ 1 = rw w.in-End.is in omega (arith, w.count-is)
-      | in-default w ↦ let none : end_count (node ∷ []) ≡ 0 = others node w.in-default.not-End in omega (arith, w.count-is)
+      | in_default w ↦ let none : end_count (node ∷ []) ≡ 0 = others node w.in_default.not-End in omega (arith, w.count-is)
     ]
 
 pub returns : goal.returns

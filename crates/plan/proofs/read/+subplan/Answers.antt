@@ -12,54 +12,54 @@ use Rattle.plan.proofs.read.+subplan.Goals as goal
 counted : (n : Nodes) → length (take n.count n.table) ≡ n.count
 counted n = length-take-le n.count n.table (omega (arith, n.few, n.long))
 
-pub returns-in-err-first : goal.returns-in-err-first
-returns-in-err-first t c =
-    let p = err_from_is_err_and c.from-residual.result c.from-residual.ensures.1 in
+pub returns-in_err-first : goal.returns-in_err-first
+returns-in_err-first t c =
+    let p = err_from_is_err_and c.from_residual.result c.from_residual.ensures.1 in
     record {
       bytes = c.node.ensures.bytes;
-      added = added_refused _ _ _ _ _ _ _ _ c.in-err-first.field-0.0 (sym c.node.ensures.value ∙ c.in-err-first.was) (p.1 ∙ ap Err p.2);
+      added = added_refused _ _ _ _ _ _ _ _ c.in_err-first.field-0.0 (sym c.node.ensures.value ∙ c.in_err-first.was) (p.1 ∙ ap Err p.2);
     }
 
 pub returns-in-End : goal.returns-in-End
 returns-in-End t c =
-    let node = sym c.node.ensures.value ∙ c.in-ok-first.was in
+    let node = sym c.node.ensures.value ∙ c.in_ok-first.was in
     let first = c.in-End.is in
     record {
       bytes = c.node.ensures.bytes;
-      added = added_end _ _ _ _ _ _ _ _ c.in-ok-first.field-0-1 (rw first at node) refl (rw first at c.push.ensures.nodes) c.in-ok-first.ensures.place;
+      added = added_end _ _ _ _ _ _ _ _ c.in_ok-first.field-0-1 (rw first at node) refl (rw first at c.push.ensures.nodes) c.in_ok-first.ensures.place;
     }
 
 pub returns-in-Order : goal.returns-in-Order
 returns-in-Order t c =
-    let node = sym c.node.ensures.value ∙ c.in-ok-first.was in
+    let node = sym c.node.ensures.value ∙ c.in_ok-first.was in
     let first = c.in-Order.is in
     let same = c.node.ensures.bytes in
     record {
       bytes = c.subplan.ensures.bytes ∙ same;
-      added = added_order _ _ _ _ _ _ _ _ c.in-Order.action c.in-ok-first.field-0-1 _ (rw first at node) (rw first at c.push.ensures.nodes) (read_as _ _ _ (ap (λ b. bits_of b.now) same) c.push.ensures.count c.in-ok-first.ensures.place refl refl c.subplan.ensures.added);
+      added = added_order _ _ _ _ _ _ _ _ c.in-Order.action c.in_ok-first.field-0-1 _ (rw first at node) (rw first at c.push.ensures.nodes) (read_as _ _ _ (ap (λ b. bits_of b.now) same) c.push.ensures.count c.in_ok-first.ensures.place refl refl c.subplan.ensures.added);
     }
 
-pub returns-in-err-subplan : goal.returns-in-err-subplan
-returns-in-err-subplan t c =
-    let p = err_from_is_err_and c.from-residual-in-err-subplan.result c.from-residual-in-err-subplan.ensures.1 in
-    let node = sym c.node.ensures.value ∙ c.in-ok-first.was in
+pub returns-in_err-subplan : goal.returns-in_err-subplan
+returns-in_err-subplan t c =
+    let p = err_from_is_err_and c.from_residual-in_err-subplan.result c.from_residual-in_err-subplan.ensures.1 in
+    let node = sym c.node.ensures.value ∙ c.in_ok-first.was in
     let looks = c.in-Look.is in
     let same = c.node.ensures.bytes in
-    let under_yes = read_as _ _ _ (ap (λ b. bits_of b.now) same) c.push.ensures.count c.in-ok-first.ensures.place c.in-err-subplan.was refl c.subplan-in-Look.ensures.added in
+    let under_yes = read_as _ _ _ (ap (λ b. bits_of b.now) same) c.push.ensures.count c.in_ok-first.ensures.place c.in_err-subplan.was refl c.subplan-in-Look.ensures.added in
     record {
       bytes = c.subplan-in-Look.ensures.bytes ∙ same;
-      added = added_look_refused _ _ _ _ _ _ _ _ c.in-Look.action c.in-ok-first.field-0-1 _ _ _ _ (rw looks at node) (p.1 ∙ ap Err p.2) under_yes;
+      added = added_look_refused _ _ _ _ _ _ _ _ c.in-Look.action c.in_ok-first.field-0-1 _ _ _ _ (rw looks at node) (p.1 ∙ ap Err p.2) under_yes;
     }
 
-pub returns-in-ok-subplan : goal.returns-in-ok-subplan
-returns-in-ok-subplan t c =
-    let node = sym c.node.ensures.value ∙ c.in-ok-first.was in
+pub returns-in_ok-subplan : goal.returns-in_ok-subplan
+returns-in_ok-subplan t c =
+    let node = sym c.node.ensures.value ∙ c.in_ok-first.was in
     let looks = c.in-Look.is in
     let same = c.node.ensures.bytes in
     let later = c.subplan-in-Look.ensures.bytes ∙ same in
-    let under_yes = read_as _ _ _ (ap (λ b. bits_of b.now) same) c.push.ensures.count c.in-ok-first.ensures.place c.in-ok-subplan.was refl c.subplan-in-Look.ensures.added in
+    let under_yes = read_as _ _ _ (ap (λ b. bits_of b.now) same) c.push.ensures.count c.in_ok-first.ensures.place c.in_ok-subplan.was refl c.subplan-in-Look.ensures.added in
     let under_no = read_as _ _ _ (ap (λ b. bits_of b.now) later) refl refl refl refl c.subplan-in-Look-2.ensures.added in
     record {
       bytes = c.subplan-in-Look-2.ensures.bytes ∙ later;
-      added = added_look _ _ _ _ _ _ _ _ c.in-Look.action c.in-ok-first.field-0-1 _ _ _ _ (rw looks at node) (rw looks at c.push.ensures.nodes) (counted c.push.new.nodes ∙ c.push.ensures.count) (counted c.subplan-in-Look.new.nodes) under_yes under_no;
+      added = added_look _ _ _ _ _ _ _ _ c.in-Look.action c.in_ok-first.field-0-1 _ _ _ _ (rw looks at node) (rw looks at c.push.ensures.nodes) (counted c.push.new.nodes ∙ c.push.ensures.count) (counted c.subplan-in-Look.new.nodes) under_yes under_no;
     }

@@ -22,10 +22,10 @@ edition_as {r} h b p = sym (subst₂ (λ x y. r ≡ plan_field (bits_of x.now) y
 ending_as : (p : ℕ) {r : Result (Unit {0}) bits.Refusal} {b b' : Bor (List ℕ)} → r ≡ ending (bits_of b.now) p → b ≡ b' → ending (bits_of b'.now) p ≡ r
 ending_as p {r} h b = sym (subst (λ x. r ≡ ending (bits_of x.now) p) b h)
 
-pub returns-in-err-edition : goal.returns-in-err-edition
-returns-in-err-edition c =
-    let p = err_from_is_err_and c.from-residual.result c.from-residual.ensures.1 in
-    let field = edition_as c.field.ensures.value c.new-reader.ensures.bytes c.new-reader.ensures.place ∙ c.in-err-edition.was in
+pub returns-in_err-edition : goal.returns-in_err-edition
+returns-in_err-edition c =
+    let p = err_from_is_err_and c.from_residual.result c.from_residual.ensures.1 in
+    let field = edition_as c.field.ensures.value c.new-reader.ensures.bytes c.new-reader.ensures.place ∙ c.in_err-edition.was in
     rw (p.1, p.2) (record {
       value = sym (edition_unread c.args.bytes.now _ field);
       lawful = tt;
@@ -34,32 +34,32 @@ returns-in-err-edition c =
 
 pub returns-then-edition-ne1 : goal.returns-then-edition-ne1
 returns-then-edition-ne1 c =
-    let field = edition_as c.field.ensures.value c.new-reader.ensures.bytes c.new-reader.ensures.place ∙ c.in-ok-edition.was in
+    let field = edition_as c.field.ensures.value c.new-reader.ensures.bytes c.new-reader.ensures.place ∙ c.in_ok-edition.was in
     record {
       value = sym (wrong_edition c.args.bytes.now _ _ field c.if-edition-ne1.true);
       lawful = tt;
       exact = reads_exactly _ (λ i. (c.type-inv.bytes i).fits);
     }
 
-pub returns-in-err-subplan : goal.returns-in-err-subplan
-returns-in-err-subplan c =
-    let p = err_from_is_err_and c.from-residual-in-err-subplan.result c.from-residual-in-err-subplan.ensures.1 in
-    let field = edition_as c.field.ensures.value c.new-reader.ensures.bytes c.new-reader.ensures.place ∙ c.in-ok-edition.was in
+pub returns-in_err-subplan : goal.returns-in_err-subplan
+returns-in_err-subplan c =
+    let p = err_from_is_err_and c.from_residual-in_err-subplan.result c.from_residual-in_err-subplan.ensures.1 in
+    let field = edition_as c.field.ensures.value c.new-reader.ensures.bytes c.new-reader.ensures.place ∙ c.in_ok-edition.was in
     let same = c.field.ensures.bytes ∙ c.new-reader.ensures.bytes in
-    let added = read_as 32 _ _ (ap (λ b. bits_of b.now) same) c.no-nodes-nodes.ensures.count c.in-ok-edition.ensures.place c.in-err-subplan.was c.no-nodes-nodes.ensures.nodes c.subplan.ensures.added in
+    let added = read_as 32 _ _ (ap (λ b. bits_of b.now) same) c.no_nodes-nodes.ensures.count c.in_ok-edition.ensures.place c.in_err-subplan.was c.no_nodes-nodes.ensures.nodes c.subplan.ensures.added in
     rw (p.1, p.2) (record {
       value = sym (plan_refused c.args.bytes.now _ _ _ _ _ field c.if-edition-ne1.false added);
       lawful = tt;
       exact = reads_exactly _ (λ i. (c.type-inv.bytes i).fits);
     })
 
-pub returns-in-err-finish : goal.returns-in-err-finish
-returns-in-err-finish c =
-    let p = err_from_is_err_and c.from-residual-in-err-finish.result c.from-residual-in-err-finish.ensures.1 in
-    let field = edition_as c.field.ensures.value c.new-reader.ensures.bytes c.new-reader.ensures.place ∙ c.in-ok-edition.was in
+pub returns-in_err-finish : goal.returns-in_err-finish
+returns-in_err-finish c =
+    let p = err_from_is_err_and c.from_residual-in_err-finish.result c.from_residual-in_err-finish.ensures.1 in
+    let field = edition_as c.field.ensures.value c.new-reader.ensures.bytes c.new-reader.ensures.place ∙ c.in_ok-edition.was in
     let same = c.field.ensures.bytes ∙ c.new-reader.ensures.bytes in
-    let added = read_as 32 _ _ (ap (λ b. bits_of b.now) same) c.no-nodes-nodes.ensures.count c.in-ok-edition.ensures.place c.in-ok-subplan.was c.no-nodes-nodes.ensures.nodes c.subplan.ensures.added in
-    let last = ending_as c.subplan.new.reader.place c.finish.ensures (c.subplan.ensures.bytes ∙ same) ∙ c.in-err-finish.was in
+    let added = read_as 32 _ _ (ap (λ b. bits_of b.now) same) c.no_nodes-nodes.ensures.count c.in_ok-edition.ensures.place c.in_ok-subplan.was c.no_nodes-nodes.ensures.nodes c.subplan.ensures.added in
+    let last = ending_as c.subplan.new.reader.place c.finish.ensures (c.subplan.ensures.bytes ∙ same) ∙ c.in_err-finish.was in
     rw (p.1, p.2) (record {
       value = sym (all_read c.args.bytes.now _ _ _ _ field c.if-edition-ne1.false added last);
       lawful = tt;
@@ -68,10 +68,10 @@ returns-in-err-finish c =
 
 pub returns : goal.returns
 returns c =
-    let field = edition_as c.field.ensures.value c.new-reader.ensures.bytes c.new-reader.ensures.place ∙ c.in-ok-edition.was in
+    let field = edition_as c.field.ensures.value c.new-reader.ensures.bytes c.new-reader.ensures.place ∙ c.in_ok-edition.was in
     let same = c.field.ensures.bytes ∙ c.new-reader.ensures.bytes in
-    let added = read_as 32 _ _ (ap (λ b. bits_of b.now) same) c.no-nodes-nodes.ensures.count c.in-ok-edition.ensures.place c.in-ok-subplan.was c.no-nodes-nodes.ensures.nodes c.subplan.ensures.added in
-    let last = ending_as c.subplan.new.reader.place c.finish.ensures (c.subplan.ensures.bytes ∙ same) ∙ c.in-ok-finish.was in
+    let added = read_as 32 _ _ (ap (λ b. bits_of b.now) same) c.no_nodes-nodes.ensures.count c.in_ok-edition.ensures.place c.in_ok-subplan.was c.no_nodes-nodes.ensures.nodes c.subplan.ensures.added in
+    let last = ending_as c.subplan.new.reader.place c.finish.ensures (c.subplan.ensures.bytes ∙ same) ∙ c.in_ok-finish.was in
     let read = all_read c.args.bytes.now _ _ _ _ field c.if-edition-ne1.false added last in
     record {
       value = sym read;

@@ -4,17 +4,17 @@ use Rattle.bits.specs.Bits.{numeral}
 use Rattle.bits.proofs.Laws.{wrote_then, wrote_refused}
 use Rattle.plan.proofs.write.put_action.Goals as goal
 
-pub returns-in-err-put : goal.returns-in-err-put
-returns-in-err-put c =
-    let p = err_from_is_err_and c.from-residual.result c.from-residual.ensures.1 in
+pub returns-in_err-put : goal.returns-in_err-put
+returns-in_err-put c =
+    let p = err_from_is_err_and c.from_residual.result c.from_residual.ensures.1 in
     rw p.1 (record {
-      wrote = wrote_refused (numeral 4 c.args.action) c.in-err-put.ensures.wrote;
+      wrote = wrote_refused (numeral 4 c.args.action) c.in_err-put.ensures.wrote;
       name = c.put.ensures.name;
     })
 
 pub returns : goal.returns
 returns c =
     record {
-      wrote = wrote_then c.in-ok-put.ensures.wrote (rw c.from.ensures at c.put-2.ensures.wrote);
+      wrote = wrote_then c.in_ok-put.ensures.wrote (rw c.from.ensures at c.put-2.ensures.wrote);
       name = c.put-2.ensures.name ∙ c.put.ensures.name;
     }

@@ -12,22 +12,22 @@ use Rattle.plan.proofs.write.put_nodes.Goals as goal
 pub loop-node-init : goal.loop-node-init
 loop-node-init c = (refl, wrote_none _ _)
 
-pub returns-in-err-put-node : goal.returns-in-err-put-node
-returns-in-err-put-node c =
-    let p = err_from_is_err_and c.from-residual.result c.from-residual.ensures.1 in
+pub returns-in_err-put_node : goal.returns-in_err-put_node
+returns-in_err-put_node c =
+    let p = err_from_is_err_and c.from_residual.result c.from_residual.ensures.1 in
     let nodes = c.args.nodes.now in
     let i = c.loop-node.node-index in
-    let stopped = wrote_then c.loop-node.invariant.1 (wrote_refused (flat_map node_bits (drop (i + 1) nodes)) c.in-err-put-node.ensures.wrote) in
+    let stopped = wrote_then c.loop-node.invariant.1 (wrote_refused (flat_map node_bits (drop (i + 1) nodes)) c.in_err-put_node.ensures.wrote) in
     rw p.1 (record {
       wrote = wrote_as (joined_split node_bits nodes i End c.loop-node-test.true) stopped;
-      name = c.put-node.ensures.name ∙ c.loop-node.invariant.0;
+      name = c.put_node.ensures.name ∙ c.loop-node.invariant.0;
     })
 
 pub loop-node-preserved : goal.loop-node-preserved
 loop-node-preserved c =
     let nodes = c.args.nodes.now in
     let i = c.loop-node.node-index in
-    (c.put-node.ensures.name ∙ c.loop-node.invariant.0, wrote_as (joined-take node_bits nodes i End c.loop-node-test.true) (wrote_then c.loop-node.invariant.1 c.in-ok-put-node.ensures.wrote))
+    (c.put_node.ensures.name ∙ c.loop-node.invariant.0, wrote_as (joined-take node_bits nodes i End c.loop-node-test.true) (wrote_then c.loop-node.invariant.1 c.in_ok-put_node.ensures.wrote))
 
 pub returns : goal.returns
 returns c =

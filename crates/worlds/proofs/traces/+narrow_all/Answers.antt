@@ -12,4 +12,4 @@ unfolding narrowed_all
 returns t c =
     let q = question c.args.domain.now c.args.orders.now c.args.told.now in
     let more : c.args.fluents ≡ suc (c.args.fluents - 1) = omega (arith, c.if-fluents-eq0.false) in
-    c.narrow-all-2.ensures ∙ rw (c.with-2.ensures, c.narrow-all.ensures, c.with.ensures) (ap (λ k. narrowed_all q k c.args.state c.args.table.now.sets) (sym more))
+    c.narrow_all-2.ensures ∙ rw (c.with-2.ensures, c.narrow_all.ensures, c.with.ensures) (ap (λ k. narrowed_all q k c.args.state c.args.table.now.sets) (sym more))

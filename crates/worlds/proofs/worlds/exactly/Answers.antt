@@ -9,6 +9,6 @@ pub returns : goal.returns
 returns c =
     let q = question c.args.domain.now c.args.orders.now c.args.told.now in
     record {
-      value = c.in-all-worlds.ensures;
-      exact = subst (ShowsTrue q) (sym c.in-all-worlds.ensures) (shows_true q (askable c.args.domain.now c.args.orders.now c.args.told.now));
+      value = c.in_all_worlds.ensures;
+      exact = subst (ShowsTrue q) (sym c.in_all_worlds.ensures) (shows_true q (askable c.args.domain.now c.args.orders.now c.args.told.now));
     }

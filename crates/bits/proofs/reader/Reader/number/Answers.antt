@@ -9,12 +9,12 @@ pub loop-i-init : goal.loop-i-init
 unfolding number number_at
 loop-i-init c = refl
 
-pub overflow-mul-number : goal.overflow-mul-number
-overflow-mul-number c =
+pub overflow_mul-number : goal.overflow_mul-number
+overflow_mul-number c =
     omega (arith, number-room (bits_of c.args.self.now.bytes.now) c.args.self.now.place c.loop-i.i (omega arith))
 
-pub overflow-add-number : goal.overflow-add-number
-overflow-add-number c =
+pub overflow_add-number : goal.overflow_add-number
+overflow_add-number c =
     omega (arith, number-room (bits_of c.args.self.now.bytes.now) c.args.self.now.place c.loop-i.i (omega arith), as_number_le c.bit.result)
 
 pub loop-i-preserved : goal.loop-i-preserved

@@ -10,5 +10,5 @@ unfolding written
 returns c =
     let d = sheet c.args.self.now in
     let long = length-packed (domain_bits d) in
-    let held = c.put-from-start.ensures.held (omega (arith, c.requires)) in
+    let held = c.put_from_start.ensures.held (omega (arith, c.requires)) in
     record { value = held.0; bytes = held.1 ∙ ap (λ k. packed (domain_bits d) ++ drop k c.args.buffer.now) (sym long) }

@@ -12,10 +12,10 @@ pub returns : goal.returns
 unfolding written
 returns c =
     let d = sheet c.args.self.now in
-    let groups = c.groups-len.ensures.value ∙ ap (λ gs. length (flat_map (list_bits 4) gs)) c.items.ensures in
-    let rows = c.rows-len.ensures.value ∙ ap (λ rs. length (rows_bits rs)) c.items-2.ensures in
+    let groups = c.groups_len.ensures.value ∙ ap (λ gs. length (flat_map (list_bits 4) gs)) c.items.ensures in
+    let rows = c.rows_len.ensures.value ∙ ap (λ rs. length (rows_bits rs)) c.items-2.ensures in
     let long = domain_long d in
     record {
-      value = rw (length-packed (domain_bits d)) (omega (arith, c.list-len.ensures.value, c.list-len-2.ensures.value, c.list-len-3.ensures.value));
+      value = rw (length-packed (domain_bits d)) (omega (arith, c.list_len.ensures.value, c.list_len-2.ensures.value, c.list_len-3.ensures.value));
       once = written_once d c.args.self.now.lawful;
     }

@@ -10,8 +10,8 @@ returns g c =
     let m = g.R.Reasoner.mind log.reasoner in
     let laws = g.R.Reasoner.laws log.reasoner in
     record {
-      value = c.put-history.ensures.value;
-      table = c.put-history.ensures.table;
-      sound = shown_true m laws (state_of log) (askable log.domain log.state.orders log.state.told) c.put-history.result c.put-history.ensures.value;
+      value = c.put_history.ensures.value;
+      table = c.put_history.ensures.table;
+      sound = shown_true m laws (state_of log) (askable log.domain log.state.orders log.state.told) c.put_history.result c.put_history.ensures.value;
       kept = never_full m laws (state_of log);
     }

@@ -10,6 +10,6 @@ pub returns : goal.returns
 unfolding written
 returns c =
     let t = plan_tree c.args.self.now in
-    let filled = rw c.nodes.ensures at c.put-from-start.ensures in
+    let filled = rw c.nodes.ensures at c.put_from_start.ensures in
     let held = filled.held (omega (arith, length-packed (plan_bits t), c.requires)) in
     record { value = held.0; bytes = held.1 ∙ ap (λ k. packed (plan_bits t) ++ drop k c.args.buffer.now) (sym (length-packed (plan_bits t))) }

@@ -18,8 +18,8 @@ loop-node-preserved c =
     let inside : i < length (plan_nodes self) = omega (arith, ap length same) in
     let more = ap length (joined-take node_bits (plan_nodes self) i End inside) in
     let long = length-append (flat_map node_bits (take i (plan_nodes self))) (node_bits (get_or (plan_nodes self) i End)) in
-    let told = rw same at c.node-len-bits.ensures.value in
-    (omega arith, omega (arith, c.node-len-bits.ensures.few))
+    let told = rw same at c.node_len-bits.ensures.value in
+    (omega arith, omega (arith, c.node_len-bits.ensures.few))
 
 pub returns : goal.returns
 unfolding written
