@@ -15,7 +15,7 @@ returns-in_err-next c =
     let p = err_from_is_err_and c.from_residual.result c.from_residual.ensures.1 in
     let read = read_here (λ bits. list_at bits c.args.fluents 4 2 8 c.loop-i.reader.place) c.list.ensures.value c.loop-i.invariant.1 ∙ c.in_err-next.was in
     rw (p.1, p.2) (record {
-      value = items_stop (group_items (bits_of c.args.reader.now.bytes.now) c.args.fluents) c.args.count c.loop-i.-i _ _ tt _ c.loop-i.invariant.2 _ c.loop-i-test.true read;
+      value = items_stop (group_items (bits_of c.args.reader.now.bytes.now) c.args.fluents) c.args.count c.loop-i._i _ _ tt _ c.loop-i.invariant.2 _ c.loop-i-test.true read;
       bytes = c.list.ensures.bytes ∙ c.loop-i.invariant.1;
       place = tt;
     })
@@ -23,13 +23,13 @@ returns-in_err-next c =
 pub loop-i-preserved : goal.loop-i-preserved
 loop-i-preserved c =
     let read = read_here (λ bits. list_at bits c.args.fluents 4 2 8 c.loop-i.reader.place) c.list.ensures.value c.loop-i.invariant.1 ∙ c.in_ok-next.was in
-    let more = items_more (group_items (bits_of c.args.reader.now.bytes.now) c.args.fluents) c.args.count c.loop-i.-i _ _ tt _ c.loop-i.invariant.2 _ _ c.loop-i-test.true read in
+    let more = items_more (group_items (bits_of c.args.reader.now.bytes.now) c.args.fluents) c.args.count c.loop-i._i _ _ tt _ c.loop-i.invariant.2 _ _ c.loop-i-test.true read in
     (c.push.ensures.count ∙ ap (λ k. k + 1) c.loop-i.invariant.0, c.list.ensures.bytes ∙ c.loop-i.invariant.1, rw (c.push.ensures.sets, c.in_ok-next.ensures.place) more)
 
 pub returns : goal.returns
 returns c =
     record {
-      value = rw c.place.ensures (items_done (group_items (bits_of c.args.reader.now.bytes.now) c.args.fluents) c.args.count c.loop-i.-i _ _ tt _ c.loop-i.invariant.2 c.loop-i-test.false);
+      value = rw c.place.ensures (items_done (group_items (bits_of c.args.reader.now.bytes.now) c.args.fluents) c.args.count c.loop-i._i _ _ tt _ c.loop-i.invariant.2 c.loop-i-test.false);
       bytes = c.loop-i.invariant.1;
       place = sym c.place.ensures;
     }

@@ -6,4 +6,4 @@ use Rattle.domain.proofs.read.groups.Given as goal
 
 abbrev pub invariant-loop-i : goal.invariant-loop-i
 invariant-loop-i l =
-    (l.groups.count ≡ l.-i) × (l.reader.bytes ≡ l.initial.reader.bytes) × (before (groups_in l.groups) (groups_at (l.count - l.-i) (bits_of l.initial.reader.bytes.now) l.fluents l.reader.place) ≡ groups_at l.count (bits_of l.initial.reader.bytes.now) l.fluents l.initial.reader.place)
+    (l.groups.count ≡ l._i) × (l.reader.bytes ≡ l.initial.reader.bytes) × (before (groups_in l.groups) (groups_at (l.count - l._i) (bits_of l.initial.reader.bytes.now) l.fluents l.reader.place) ≡ groups_at l.count (bits_of l.initial.reader.bytes.now) l.fluents l.initial.reader.place)

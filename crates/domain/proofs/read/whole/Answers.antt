@@ -30,7 +30,7 @@ returns-in_err-edition c =
     rw (p.1, p.2) (record {
       value = sym (edition_unread c.args.bytes.now _ field);
       lawful = tt;
-      exact = reads_exactly _ (λ i. (c.type-inv.bytes i).fits);
+      exact = reads_exactly _ (λ i. (c.type_inv.bytes i).fits);
     })
 
 pub returns-then-edition-ne1 : goal.returns-then-edition-ne1
@@ -39,7 +39,7 @@ returns-then-edition-ne1 c =
     record {
       value = sym (wrong_edition c.args.bytes.now _ _ field c.if-edition-ne1.true);
       lawful = tt;
-      exact = reads_exactly _ (λ i. (c.type-inv.bytes i).fits);
+      exact = reads_exactly _ (λ i. (c.type_inv.bytes i).fits);
     }
 
 pub returns-in_err-parts : goal.returns-in_err-parts
@@ -51,7 +51,7 @@ returns-in_err-parts c =
     rw (p.1, p.2) (record {
       value = sym (sheet_refused c.args.bytes.now _ _ _ field c.if-edition-ne1.false sheet);
       lawful = tt;
-      exact = reads_exactly _ (λ i. (c.type-inv.bytes i).fits);
+      exact = reads_exactly _ (λ i. (c.type_inv.bytes i).fits);
     })
 
 pub returns-in_err-finish : goal.returns-in_err-finish
@@ -64,7 +64,7 @@ returns-in_err-finish c =
     rw (p.1, p.2) (record {
       value = sym (all_read c.args.bytes.now _ _ _ _ field c.if-edition-ne1.false sheet last);
       lawful = tt;
-      exact = reads_exactly _ (λ i. (c.type-inv.bytes i).fits);
+      exact = reads_exactly _ (λ i. (c.type_inv.bytes i).fits);
     })
 
 pub returns : goal.returns
@@ -77,5 +77,5 @@ returns c =
     record {
       value = sym read;
       lawful = read_lawful c.args.bytes.now _ read;
-      exact = reads_exactly _ (λ i. (c.type-inv.bytes i).fits);
+      exact = reads_exactly _ (λ i. (c.type_inv.bytes i).fits);
     }

@@ -15,7 +15,7 @@ returns-in_err-next c =
     let p = err_from_is_err_and c.from_residual.result c.from_residual.ensures.1 in
     let read = read_here (λ bits. effect_at bits c.args.fluents c.loop-i.least c.loop-i.reader.place) c.effect.ensures.value c.loop-i.invariant.2 ∙ c.in_err-next.was in
     rw (p.1, p.2) (record {
-      value = items_stop (effect_items (bits_of c.args.reader.now.bytes.now) c.args.fluents) c.args.count c.loop-i.-i _ _ _ _ c.loop-i.invariant.3 _ c.loop-i-test.true read;
+      value = items_stop (effect_items (bits_of c.args.reader.now.bytes.now) c.args.fluents) c.args.count c.loop-i._i _ _ _ _ c.loop-i.invariant.3 _ c.loop-i-test.true read;
       bytes = c.effect.ensures.bytes ∙ c.loop-i.invariant.2;
       place = tt;
     })
@@ -23,13 +23,13 @@ returns-in_err-next c =
 pub loop-i-preserved : goal.loop-i-preserved
 loop-i-preserved c =
     let read = read_here (λ bits. effect_at bits c.args.fluents c.loop-i.least c.loop-i.reader.place) c.effect.ensures.value c.loop-i.invariant.2 ∙ c.in_ok-next.was in
-    let more = items_more (effect_items (bits_of c.args.reader.now.bytes.now) c.args.fluents) c.args.count c.loop-i.-i _ _ _ _ c.loop-i.invariant.3 _ _ c.loop-i-test.true read in
+    let more = items_more (effect_items (bits_of c.args.reader.now.bytes.now) c.args.fluents) c.args.count c.loop-i._i _ _ _ _ c.loop-i.invariant.3 _ _ c.loop-i-test.true read in
     (omega (arith, c.in_ok-next.ensures.small), c.push.ensures.count ∙ ap (λ k. k + 1) c.loop-i.invariant.1, c.effect.ensures.bytes ∙ c.loop-i.invariant.2, rw (c.push.ensures.rows, c.in_ok-next.ensures.place) more)
 
 pub returns : goal.returns
 returns c =
     record {
-      value = rw c.place.ensures (items_done (effect_items (bits_of c.args.reader.now.bytes.now) c.args.fluents) c.args.count c.loop-i.-i _ _ _ _ c.loop-i.invariant.3 c.loop-i-test.false);
+      value = rw c.place.ensures (items_done (effect_items (bits_of c.args.reader.now.bytes.now) c.args.fluents) c.args.count c.loop-i._i _ _ _ _ c.loop-i.invariant.3 c.loop-i-test.false);
       bytes = c.loop-i.invariant.2;
       place = sym c.place.ensures;
     }

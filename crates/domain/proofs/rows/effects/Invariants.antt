@@ -6,4 +6,4 @@ use Rattle.domain.proofs.rows.effects.Given as goal
 
 abbrev pub invariant-loop-i : goal.invariant-loop-i
 invariant-loop-i l =
-    (l.least ≤ 64) × (l.effects.count ≡ l.-i) × (l.reader.bytes ≡ l.initial.reader.bytes) × (before (effects_in l.effects) (effects_at (l.count - l.-i) (bits_of l.initial.reader.bytes.now) l.fluents l.least l.reader.place) ≡ effects_at l.count (bits_of l.initial.reader.bytes.now) l.fluents 0 l.initial.reader.place)
+    (l.least ≤ 64) × (l.effects.count ≡ l._i) × (l.reader.bytes ≡ l.initial.reader.bytes) × (before (effects_in l.effects) (effects_at (l.count - l._i) (bits_of l.initial.reader.bytes.now) l.fluents l.least l.reader.place) ≡ effects_at l.count (bits_of l.initial.reader.bytes.now) l.fluents 0 l.initial.reader.place)

@@ -9,13 +9,13 @@ unfolding left_over
 returns-then-count-eq0 c = rw (sym c.without-left.ensures, eq-eqb _ _ c.if-count-eq0.true) refl
 
 pub overflow_shl-result : goal.overflow_shl-result
-overflow_shl-result c = ones_place c.without-left.result c.without-left.type-inv c.if-count-eq1.true
+overflow_shl-result c = ones_place c.without-left.result c.without-left.type_inv c.if-count-eq1.true
 
 pub returns-then-count-eq1 : goal.returns-then-count-eq1
 unfolding left_over
 returns-then-count-eq1 c =
     rw (sym c.without-left.ensures, ne_eqb _ _ c.if-count-eq0.false, eq-eqb _ _ c.if-count-eq1.true)
-    (omega (arith, c.without-left.type-inv, ones_power c.without-left.result c.without-left.type-inv c.if-count-eq1.true))
+    (omega (arith, c.without-left.type_inv, ones_power c.without-left.result c.without-left.type_inv c.if-count-eq1.true))
 
 pub returns : goal.returns
 unfolding left_over

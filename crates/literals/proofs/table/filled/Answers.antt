@@ -12,7 +12,7 @@ loop-t-preserved c =
     ap (λ sets. set sets c.loop-t.t c.args.literals) c.loop-t.invariant ∙ filled_more c.loop-t.t c.args.literals (omega arith)
 
 pub invariant_of-result : goal.invariant_of-result
-invariant_of-result c = (
-  ap length c.loop-t.invariant ∙ length-filled c.loop-t.t c.args.literals (omega arith),
-  (subst AreSets (sym c.loop-t.invariant) (filled_sets c.loop-t.t c.args.literals (omega arith)), tt),
-)
+invariant_of-result c = record {
+  long = ap length c.loop-t.invariant ∙ length-filled c.loop-t.t c.args.literals (omega arith);
+  small = subst AreSets (sym c.loop-t.invariant) (filled_sets c.loop-t.t c.args.literals (omega arith));
+}

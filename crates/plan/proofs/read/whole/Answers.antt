@@ -29,7 +29,7 @@ returns-in_err-edition c =
     rw (p.1, p.2) (record {
       value = sym (edition_unread c.args.bytes.now _ field);
       lawful = tt;
-      exact = reads_exactly _ (λ i. (c.type-inv.bytes i).fits);
+      exact = reads_exactly _ (λ i. (c.type_inv.bytes i).fits);
     })
 
 pub returns-then-edition-ne1 : goal.returns-then-edition-ne1
@@ -38,7 +38,7 @@ returns-then-edition-ne1 c =
     record {
       value = sym (wrong_edition c.args.bytes.now _ _ field c.if-edition-ne1.true);
       lawful = tt;
-      exact = reads_exactly _ (λ i. (c.type-inv.bytes i).fits);
+      exact = reads_exactly _ (λ i. (c.type_inv.bytes i).fits);
     }
 
 pub returns-in_err-subplan : goal.returns-in_err-subplan
@@ -50,7 +50,7 @@ returns-in_err-subplan c =
     rw (p.1, p.2) (record {
       value = sym (plan_refused c.args.bytes.now _ _ _ _ _ field c.if-edition-ne1.false added);
       lawful = tt;
-      exact = reads_exactly _ (λ i. (c.type-inv.bytes i).fits);
+      exact = reads_exactly _ (λ i. (c.type_inv.bytes i).fits);
     })
 
 pub returns-in_err-finish : goal.returns-in_err-finish
@@ -63,7 +63,7 @@ returns-in_err-finish c =
     rw (p.1, p.2) (record {
       value = sym (all_read c.args.bytes.now _ _ _ _ field c.if-edition-ne1.false added last);
       lawful = tt;
-      exact = reads_exactly _ (λ i. (c.type-inv.bytes i).fits);
+      exact = reads_exactly _ (λ i. (c.type_inv.bytes i).fits);
     })
 
 pub returns : goal.returns
@@ -76,5 +76,5 @@ returns c =
     record {
       value = sym read;
       lawful = whole_nodes c.args.bytes.now _ _ _ _ _ added read;
-      exact = reads_exactly _ (λ i. (c.type-inv.bytes i).fits);
+      exact = reads_exactly _ (λ i. (c.type_inv.bytes i).fits);
     }
