@@ -57,7 +57,7 @@ pub by_clash : (q : Question) → Askable q → (P : List ℕ → Type 0) → ((
     → (Clashes (closure q) → P (full q.sheet.fluents (latest q))) → P (history q)
 by_clash q asked P calm upset =
     ⊎_elim
-    (λ (c : Calm q). subst P (sym c.is-closure) (calm c.clash-free))
+    (λ (c : Calm q). subst P (sym c.is_closure) (calm c.clash_free))
     (λ (u : Upset q). subst P (sym u.is_full_table) (upset u.clashes))
     (calm_or_upset q asked)
 

@@ -89,14 +89,14 @@ given_cases s (x ∷ xs) f =
       none = λ e there. ⊎_elim (λ (is : e ≡ x). subst (λ y. fires s y ≡ true → fluent y.literal ≢ f) (sym is) here) (λ (later : Among e xs). k.none e later) there;
       value = same ∙ k.value;
     }))
-    (λ (c : Changed s xs f). inr (record { by = c.by; among = inr c.among; fired = c.fired; of_it = c.of-it; value = same ∙ c.value }))
+    (λ (c : Changed s xs f). inr (record { by = c.by; among = inr c.among; fired = c.fired; of_it = c.of_it; value = same ∙ c.value }))
     (given_cases s xs f))
     (cases_Bool test)
 
 -- a fluent that no fired effect names keeps its value
 pub given-kept : (s : State) (es : List Effect) (f : ℕ) → ((e : Effect) → Among e es → fires s e ≡ true → fluent e.literal ≢ f) → given s es f ≡ s f
 given-kept s es f none =
-    ⊎_elim (λ (k : Kept s es f). k.value) (λ (c : Changed s es f). absurd (none c.by c.among c.fired c.of-it)) (given_cases s es f)
+    ⊎_elim (λ (k : Kept s es f). k.value) (λ (c : Changed s es f). absurd (none c.by c.among c.fired c.of_it)) (given_cases s es f)
 
 agree : (a b : Bool) → cond a b (not b) ≡ true → a ≡ b
 agree true b h = sym h
@@ -121,7 +121,7 @@ came s es l before now =
     absurd (both_ways (holds s l) before (ap (λ v. cond (affirms l) v (not v)) (sym k.value) ∙ now)))
     (λ (c : Changed s es (fluent l)).
     let value : cond (affirms l) (affirms c.by.literal) (not (affirms c.by.literal)) ≡ true = ap (λ v. cond (affirms l) v (not v)) (sym c.value) ∙ now in
-    record { by = c.by; among = c.among; fired = c.fired; literal_is = same_literal c.by.literal l c.of-it (sym (agree (affirms l) (affirms c.by.literal) value)) })
+    record { by = c.by; among = c.among; fired = c.fired; literal_is = same_literal c.by.literal l c.of_it (sym (agree (affirms l) (affirms c.by.literal) value)) })
     (given_cases s es (fluent l))
 
 -- ---- effects that exclude one another
@@ -147,7 +147,7 @@ module _ (F : ℕ) (es : List Effect) (ex : Exclusive F es) (s : State) where
       ⊎_elim
       (λ (k : Kept s es (fluent l)). absurd (k.none e there fire refl))
       (λ (c : Changed s es (fluent l)).
-      let same : c.by.literal ≡ l = together c.by e c.among there c.fired fire c.of-it in
+      let same : c.by.literal ≡ l = together c.by e c.among there c.fired fire c.of_it in
       ap (λ v. cond (affirms l) v (not v)) (c.value ∙ ap affirms same) ∙ itself (affirms l))
       (given_cases s es (fluent l))
     where

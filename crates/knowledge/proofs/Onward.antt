@@ -108,7 +108,7 @@ none_open_not es a l none =
     ⊎_elim
     (λ (h : has (may_come es a) l ≡ true).
     let c = may_come-has es a l h in
-    absurd (open_not_shut a c.effect c.still_open (none c.effect c.among c.literal-is)))
+    absurd (open_not_shut a c.effect c.still_open (none c.effect c.among c.literal_is)))
     (λ (h : has (may_come es a) l ≡ false). h)
     (cases_Bool (has (may_come es a) l))
 
@@ -213,7 +213,7 @@ module _ (F : ℕ) (es : List Effect) (few : F ≤ 32) (x : Exclusive F es) (a :
   caused_comes : (l : ℕ) → Caused es a l → has (may_come es a) l ≡ true
   caused_comes l c =
       let e = c.effect in
-      subst (λ m. has (may_come es a) m ≡ true) c.literal-is
+      subst (λ m. has (may_come es a) m ≡ true) c.literal_is
       (has-may_come es a e c.among (below_64 e c.among) (met_open a e calm (x.small e c.among) c.met))
 
   -- no rule between the two moments adds to the facts
@@ -273,7 +273,7 @@ module _ (F : ℕ) (es : List Effect) (few : F ≤ 32) (x : Exclusive F es) (a :
       let clear : has (may_come es a) l ≡ false = subst (λ m. has (may_come es a) m ≡ false) (opposite-opposite l) r.unopposed in
       both_ways (has (may_come es a) l) clear (caused_comes l c))
       (λ (d : Caused es a (opposite l)).
-      let against : c.effect.literal ≡ opposite d.effect.literal = c.literal-is ∙ sym (opposite-opposite l) ∙ ap (λ n. opposite n) (sym d.literal_is) in
+      let against : c.effect.literal ≡ opposite d.effect.literal = c.literal_is ∙ sym (opposite-opposite l) ∙ ap (λ n. opposite n) (sym d.literal_is) in
       let apart = x.apart c.effect d.effect c.among d.among against in
       calm apart.condition (c.met apart.condition apart.here) (d.met (opposite apart.condition) apart.there))
       (onward_has es a (opposite l) k))
@@ -284,5 +284,5 @@ module _ (F : ℕ) (es : List Effect) (few : F ≤ 32) (x : Exclusive F es) (a :
   onward_known known l h =
       ⊎_elim
       (λ (s : Stays es a l). known l s.was)
-      (λ (c : Caused es a l). subst (λ m. fluent m < F) c.literal-is (x.literal_known c.effect c.among))
+      (λ (c : Caused es a l). subst (λ m. fluent m < F) c.literal_is (x.literal_known c.effect c.among))
       (onward_has es a l h)

@@ -55,7 +55,7 @@ module _ (F : ℕ) (es : List Effect) (few : F ≤ 32) (ex : Exclusive F es) (w 
         by = c.effect;
         among = c.among;
         fired = has-fires s c.effect (λ m member. stands_true F w s st m (c.met m member));
-        literal_is = c.literal-is;
+        literal_is = c.literal_is;
       }
 
   came_fired : (l : ℕ) → Came s es l → has (firing es w) l ≡ true
@@ -65,11 +65,11 @@ module _ (F : ℕ) (es : List Effect) (few : F ≤ 32) (ex : Exclusive F es) (w 
       let met : (m : ℕ) → has e.conditions m ≡ true → has w m ≡ true = λ m member.
       st.true_in m (ex.conditions_known e m c.among member) ∙ fires-has s e m c.fired member in
       ap (λ x. has x l) (firing-caused es w)
-      ∙ subst (λ m. has (caused-all es w) m ≡ true) c.literal-is
+      ∙ subst (λ m. has (caused-all es w) m ≡ true) c.literal_is
       (has-caused-all es w e c.among (omega (arith, low, few)) (ex.small e c.among) met)
 
   came_true : (l : ℕ) → Came s es l → holds (given s es) l ≡ true
-  came_true l c = subst (λ m. holds (given s es) m ≡ true) c.literal-is (given_fired F es ex s c.by c.among c.fired)
+  came_true l c = subst (λ m. holds (given s es) m ≡ true) c.literal_is (given_fired F es ex s c.by c.among c.fired)
 
   moved_true : (l : ℕ) → has (moved es w) l ≡ true → holds (given s es) l ≡ true
   moved_true l h =
@@ -107,7 +107,7 @@ module _ (F : ℕ) (es : List Effect) (few : F ≤ 32) (ex : Exclusive F es) (w 
       (λ (k : has (without w (opposites (firing es w))) l ≡ true). st.known l (without_left w (opposites (firing es w)) l k))
       (λ (k : has (firing es w) l ≡ true).
       let c = fired_came l k in
-      subst (λ m. fluent m < F) c.literal-is (ex.literal_known c.by c.among))
+      subst (λ m. fluent m < F) c.literal_is (ex.literal_known c.by c.among))
       (in_either _ (firing es w) l h)
 
   pub moved_stands : Stands F (moved es w) (given s es)

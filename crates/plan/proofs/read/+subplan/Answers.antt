@@ -39,25 +39,25 @@ returns-in-Order t c =
       added = added_order _ _ _ _ _ _ _ _ c.in-Order.action c.in_ok-first.field-0-1 _ (rw first at node) (rw first at c.push.ensures.nodes) (read_as _ _ _ (ap (λ b. bits_of b.now) same) c.push.ensures.count c.in_ok-first.ensures.place refl refl c.subplan.ensures.added);
     }
 
-pub returns-in_err-subplan : goal.returns-in_err-subplan
-returns-in_err-subplan t c =
-    let p = err_from_is_err_and c.from_residual-in_err-subplan.result c.from_residual-in_err-subplan.ensures.1 in
+pub returns-in_err-subplan-in-Look : goal.returns-in_err-subplan-in-Look
+returns-in_err-subplan-in-Look t c =
+    let p = err_from_is_err_and c.from_residual-in_err-subplan-in-Look.result c.from_residual-in_err-subplan-in-Look.ensures.1 in
     let node = sym c.node.ensures.value ∙ c.in_ok-first.was in
     let looks = c.in-Look.is in
     let same = c.node.ensures.bytes in
-    let under_yes = read_as _ _ _ (ap (λ b. bits_of b.now) same) c.push.ensures.count c.in_ok-first.ensures.place c.in_err-subplan.was refl c.subplan-in-Look.ensures.added in
+    let under_yes = read_as _ _ _ (ap (λ b. bits_of b.now) same) c.push.ensures.count c.in_ok-first.ensures.place c.in_err-subplan-in-Look.was refl c.subplan-in-Look.ensures.added in
     record {
       bytes = c.subplan-in-Look.ensures.bytes ∙ same;
       added = added_look_refused _ _ _ _ _ _ _ _ c.in-Look.action c.in_ok-first.field-0-1 _ _ _ _ (rw looks at node) (p.1 ∙ ap Err p.2) under_yes;
     }
 
-pub returns-in_ok-subplan : goal.returns-in_ok-subplan
-returns-in_ok-subplan t c =
+pub returns-in_ok-subplan-in-Look : goal.returns-in_ok-subplan-in-Look
+returns-in_ok-subplan-in-Look t c =
     let node = sym c.node.ensures.value ∙ c.in_ok-first.was in
     let looks = c.in-Look.is in
     let same = c.node.ensures.bytes in
     let later = c.subplan-in-Look.ensures.bytes ∙ same in
-    let under_yes = read_as _ _ _ (ap (λ b. bits_of b.now) same) c.push.ensures.count c.in_ok-first.ensures.place c.in_ok-subplan.was refl c.subplan-in-Look.ensures.added in
+    let under_yes = read_as _ _ _ (ap (λ b. bits_of b.now) same) c.push.ensures.count c.in_ok-first.ensures.place c.in_ok-subplan-in-Look.was refl c.subplan-in-Look.ensures.added in
     let under_no = read_as _ _ _ (ap (λ b. bits_of b.now) later) refl refl refl refl c.subplan-in-Look-2.ensures.added in
     record {
       bytes = c.subplan-in-Look-2.ensures.bytes ∙ later;
