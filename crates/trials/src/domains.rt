@@ -274,7 +274,7 @@ mod tests {
         };
         let mut buffer = [0xaa; 11];
         assert_eq!(rt; domain.write(&mut buffer), Ok(10));
-        assert_eq!(rt; &buffer[0..10], &WORKED);
+        assert_eq!(rt; &buffer[0..10], WORKED.as_slice());
         assert_eq!(rt; buffer[10], 0xaa, "the rest of the buffer");
         let mut short = [0xaa; 9];
         assert_eq!(rt; domain.write(&mut short), Err(TooShort { needed: 10 }));
