@@ -1,5 +1,5 @@
 -- Laws of numbers spelled by bits, and of the bits of bytes. Assumes nothing.
-use Rattle.std.proofs.Common.{◌≡◌, ℕ, zero, suc, ◌+◌, ◌-◌, ◌*◌, ◌/◌, ◌%◌, ◌^◌, ◌<◌, ◌≤◌, Bool, true, false, cond, eqb, ltb, leb, List, [], ◌∷◌, ◌++◌, length, get_or, take, drop, replicate, sym, refl, ap, ◌∙◌, subst, ⊎_elim, append_assoc, lt_of_lt_of_le, mul_assoc, mul_comm, add-mul, pow-suc, one-add, arith, length-append, length-take, pow_pos, pow_mono, pow-add, shr-shr}
+use Rattle.std.proofs.Common.{◌≡◌, ℕ, zero, suc, ◌+◌, ◌-◌, ◌*◌, ◌/◌, ◌%◌, ◌^◌, ◌<◌, ◌≤◌, Bool, true, false, cond, eqb, List, [], ◌∷◌, ◌++◌, length, get_or, take, drop, replicate, sym, refl, ap, ⊎_elim, append_assoc, lt_of_lt_of_le, mul_assoc, mul_comm, add-mul, pow-suc, one-add, arith, length-append, length-take, pow_pos, pow_mono, pow-add, shr-shr}
 use native.Mathlib.Nat.{mod-one, zero-div, mul-add-div_right, mul-add-mod_self_right}
 use mir.Val.{bool_byte}
 use Rattle.std.proofs.lemmas.List.{get_or_append_left, get_or-append_right}

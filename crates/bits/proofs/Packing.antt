@@ -1,12 +1,12 @@
 -- What put bits make of a buffer, and which bytes hold given bits. Assumes nothing.
-use Rattle.std.proofs.Common.{◌≡◌, ℕ, zero, suc, ◌+◌, ◌-◌, ◌*◌, ◌/◌, ◌%◌, ◌^◌, ◌<◌, ◌≤◌, Bool, true, false, cond, List, [], ◌∷◌, ◌++◌, length, get_or, take, drop, set, replicate, sym, refl, ap, ◌∙◌, ⊎_elim, append_assoc, append-nil, add-zero, mod-eq_of_lt, div-mul-le_self, arith, length-append, length-drop, length-set, take-append-drop, length-take, pow_mono, shr_lt}
+use Rattle.std.proofs.Common.{◌≡◌, ℕ, zero, suc, ◌+◌, ◌-◌, ◌*◌, ◌/◌, ◌%◌, ◌^◌, ◌<◌, ◌≤◌, Bool, true, false, cond, List, [], ◌∷◌, ◌++◌, length, take, drop, replicate, sym, refl, ap, ◌∙◌, ⊎_elim, append_assoc, append-nil, add-zero, mod-eq_of_lt, div-mul-le_self, arith, length-append, length-drop, length-set, take-append-drop, length-take, pow_mono, shr_lt}
 use native.Mathlib.Nat.{sub-zero}
 use lib.Seq.{take-nil, drop-nil}
 use mir.Val.{bool_byte}
-use Rattle.std.proofs.lemmas.List.{take_all, drop_all, take_at, drop_at, take-append-le, drop-append-le, take-replicate, drop-replicate, length-replicate, nil_from_length, replicate-append-replicate, append_cancel_left}
+use Rattle.std.proofs.lemmas.List.{take_all, drop_all, take_at, drop_at, take-append-le, take-replicate, drop-replicate, length-replicate, nil_from_length, replicate-append-replicate}
 use Rattle.std.proofs.lemmas.Bool.{cases_lt}
 use Rattle.bits.specs.Bits.{number, numeral, bits_of, bytes_for, cut, packed, AreBytes, with_bit, put_bit, put, holding}
-use Rattle.bits.proofs.Numbers.{length-numeral, number-numeral, numeral-number, number_append, number_below, number-zeros, take-numeral, length-bits_of, as_number}
+use Rattle.bits.proofs.Numbers.{length-numeral, number-numeral, numeral-number, number_append, number_below, number-zeros, take-numeral, as_number}
 
 -- a byte with a bit put into it, as arithmetic
 with_bit_sum : (o r : ℕ) (b : Bool) → o < 256 → r < 8 → with_bit r b o ≡ o / 2 ^ (8 - r) * 2 ^ (8 - r) + cond b 1 0 * 2 ^ (7 - r)

@@ -1,7 +1,7 @@
 -- One turn of each loop of the reader and the writer. Assumes nothing.
-use Rattle.std.proofs.Common.{◌≡◌, ℕ, zero, suc, ◌+◌, ◌-◌, ◌*◌, ◌/◌, ◌%◌, ◌^◌, ◌<◌, ◌≤◌, Bool, true, false, cond, ◌≢◌, List, [], ◌∷◌, ◌++◌, length, get_or, take, drop, sym, refl, ap, ◌∙◌, add-zero, arith, length-drop, pow_mono}
+use Rattle.std.proofs.Common.{◌≡◌, ℕ, zero, suc, ◌+◌, ◌-◌, ◌*◌, ◌%◌, ◌^◌, ◌<◌, Bool, true, false, cond, ◌≢◌, List, [], ◌∷◌, length, get_or, take, drop, refl, add-zero, arith, length-drop, pow_mono}
 use Rattle.std.proofs.lemmas.List.{take_more, drop_more, get_or-drop}
-use Rattle.bits.specs.Bits.{number, bits_of}
+use Rattle.bits.specs.Bits.{number}
 use Rattle.std.proofs.lemmas.Bool.{false≢true}
 use Rattle.bits.specs.Fields.{number_at, zeros, fill_end}
 use Rattle.bits.proofs.Numbers.{number_append, number_at_below}

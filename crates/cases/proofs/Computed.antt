@@ -1,5 +1,5 @@
 -- A case stands where a test that computes says so. Assumes nothing.
-use Rattle.std.proofs.Common.{◌≡◌, ℕ, zero, suc, ◌+◌, ◌*◌, ◌<◌, ◌≤◌, Bool, true, false, cond, not, ◌&&◌, eqb, leb, List, [], ◌∷◌, length, take, Ok, Err, Result, sym, refl, ap, ◌∙◌, subst, ⊎_elim, arith, length-set, length-take}
+use Rattle.std.proofs.Common.{◌≡◌, ℕ, zero, suc, ◌+◌, ◌*◌, ◌<◌, ◌≤◌, Bool, true, false, cond, not, ◌&&◌, eqb, leb, List, [], ◌∷◌, take, Ok, Err, Result, sym, refl, ap, ◌∙◌, subst, ⊎_elim, arith, length-set, length-take}
 use lib.Count.{ones, count_trailing_zeros}
 use Rattle.std.proofs.lemmas.Bool.{cases_Bool, and_parts, both_ways, not-true, leb-true, eqb-true, eqb-false}
 use Rattle.bits.specs.Bits.{bits_of, numeral, number}
@@ -17,7 +17,7 @@ use Rattle.knowledge.specs.Questions.{Question, latest, IsTable, Askable}
 use Rattle.knowledge.specs.Rules.{Known}
 use Rattle.knowledge.specs.Sweeps.{left_over, all_grouped, may_come, all_worked, passed, sweep, sweeps, room, told_from, start, closure}
 use Rattle.knowledge.proofs.Laws.{closure_known, known_closure, shows_true}
-use Rattle.cases.specs.Cases.{with_told, question_of, Marked, mark_of, NoWorld, Within, Stands}
+use Rattle.cases.specs.Cases.{with_told, question_of, Marked, mark_of, NoWorld, Stands}
 use Rattle.cases.specs.declared.cases.Case.{Case}
 
 -- ---- tests

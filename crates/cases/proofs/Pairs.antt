@@ -1,6 +1,6 @@
 -- Exactly one of a and b, and exactly one of a and not b: nothing is known, and no world agrees. Assumes nothing.
-use Rattle.std.proofs.Common.{◌≡◌, ℕ, ◌+◌, ◌^◌, Bool, true, false, cond, ◌&&◌, eqb, List, [], ◌∷◌, set, sym, refl, ap, ◌∙◌, subst, arith}
-use lib.Bits.{bit_and, bit_or}
+use Rattle.std.proofs.Common.{◌≡◌, ℕ, ◌+◌, ◌^◌, true, false, cond, ◌&&◌, eqb, List, [], ◌∷◌, set, sym, refl, ap, ◌∙◌, subst, arith}
+use lib.Bits.{bit_or}
 use lib.Count.{ones, ones_cat, count_trailing_zeros}
 use Rattle.literals.specs.Literals.{single, place, rotated, of_first, without, opposites}
 use Rattle.literals.specs.Tables.{empty, full, filled, common}
@@ -11,7 +11,7 @@ use Rattle.knowledge.specs.Questions.{Question}
 use Rattle.knowledge.specs.Sweeps.{left_over, grouped, all_grouped, passed, sweep, room, told_from, start, closure}
 use Rattle.cases.specs.Cases.{question_of, Stands}
 use Rattle.cases.specs.declared.cases.Case.{Case}
-use Rattle.cases.proofs.Computed.{opened, worked_out, counted, swept, settled, marks_shown, worlds_as, stands}
+use Rattle.cases.proofs.Computed.{opened, worked_out, counted, swept, settled, marks_shown, stands}
 
 abbrev pairs : Sheet
 pairs =

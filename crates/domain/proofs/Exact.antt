@@ -1,14 +1,14 @@
 -- Bytes read as a sheet exactly when they are what it is written as. Assumes nothing.
-use Rattle.std.proofs.Common.{◌≡◌, ℕ, ◌+◌, ◌≤◌, Bool, true, false, cond, eqb, List, [], ◌∷◌, ◌++◌, length, Ok, Err, Result, sym, refl, ap, ◌∙◌, subst, arith, length-append}
+use Rattle.std.proofs.Common.{◌≡◌, ℕ, ◌+◌, true, eqb, List, length, Ok, sym, ap, ◌∙◌, subst, arith, length-append}
 use Rattle.std.proofs.lemmas.Bool.{eqb-true}
 use Rattle.bits.specs.Bits.{numeral, bits_of, packed, AreBytes}
 use Rattle.bits.specs.Fields.{ending, followed, after, refused_as}
-use Rattle.bits.proofs.Laws.{Stands, stands_split, stands_join, packed_stands, packed_ends, packed_only, length-numeral, both_read, test_passed, lifted_read, same_answer, test_answered}
+use Rattle.bits.proofs.Laws.{Stands, stands_split, stands_join, packed_stands, packed_ends, packed_only, both_read, test_passed, lifted_read, same_answer, test_answered}
 use Rattle.domain.specs.Layout.{sheet_at, ended, edition_one, read_domain, sheet_bits, domain_bits, written}
 use Rattle.domain.specs.Lists.{domain_field}
 use Rattle.domain.specs.Promises.{ReadsExactly, WrittenOnce}
 use Rattle.domain.specs.Sheet.{Sheet, lawful}
-use Rattle.domain.specs.declared.refusal.Refusal.TheVariants.{Unread, Edition}
+use Rattle.domain.specs.declared.refusal.Refusal.TheVariants.{Unread}
 use Rattle.domain.proofs.ListBits.{domain_field_piece}
 use Rattle.domain.proofs.SheetBits.{sheet_piece}
 

@@ -8,11 +8,10 @@ use Rattle.bits.proofs.Laws.{length-numeral}
 use Rattle.domain.specs.Accessors.{no_action}
 use Rattle.domain.specs.Layout.{effect_bits, kind_of, deed_bits, action_bits, domain_bits}
 use Rattle.domain.specs.Lists.{listed, list_bits}
-use Rattle.domain.specs.Rows.{deed_in, action_in, actions_in, effects_in, groups_in}
+use Rattle.domain.specs.Rows.{deed_in, action_in, actions_in, effects_in}
 use Rattle.domain.specs.Sheet.{Sheet, each, lawful}
 use Rattle.domain.specs.declared.action.Effect.{Effect}
 use Rattle.domain.specs.declared.action.Effects.{Effects}
-use Rattle.domain.specs.declared.action.Groups.{Groups}
 use Rattle.domain.specs.declared.action.Kind.{Kind}
 use Rattle.domain.specs.declared.action.Kind.TheVariants.{Working, Sensing}
 use Rattle.domain.specs.declared.action.Row.{Row}

@@ -1,13 +1,13 @@
 -- Effects, groups and actions that are read stand there in bits and are lawful, and lawful ones that stand there are read. Assumes nothing.
-use Rattle.std.proofs.Common.{◌≡◌, ℕ, zero, suc, ◌+◌, ◌-◌, ◌/◌, ◌^◌, ◌<◌, ◌≤◌, Bool, true, false, cond, not, ◌&&◌, eqb, ltb, leb, List, [], ◌∷◌, ◌++◌, length, Some, None, Ok, Err, Option, Result, sym, refl, ap, ◌∙◌, subst, append_assoc, add-zero, arith, length-append}
+use Rattle.std.proofs.Common.{◌≡◌, ℕ, zero, suc, ◌+◌, ◌-◌, ◌/◌, ◌^◌, ◌<◌, ◌≤◌, Bool, true, false, cond, ◌&&◌, eqb, ltb, leb, List, [], ◌∷◌, ◌++◌, length, Ok, Result, sym, refl, ap, subst, arith}
 use Rattle.std.specs.List.{flat_map}
 use Rattle.std.proofs.lemmas.List.{nil_from_length}
 use Rattle.std.proofs.lemmas.Bool.{and_parts, and_from, lt-ltb, le-leb, ltb-true, leb-true, eqb-true, eqb-false}
 use Rattle.bits.specs.Bits.{numeral}
 use Rattle.bits.specs.Fields.{followed}
-use Rattle.bits.proofs.Laws.{Stands, stands_none, stands_split, stands_join, err_not_ok, same_answer, both_read, Piece, tested_piece, piece_made, piece_then, piece_by, FirstAndRest, none_piece, cons_piece, length-numeral}
-use Rattle.domain.specs.Layout.{effect_at, effects_at, counted_at, clash_place, working_at, sensing_at, deed_at, row_at, action_at, actions_at, groups_at, all_groups_at, goals_at, rows_at, grouped_at, facts_at, counts_at, sheet_at, sheet_of, effect_bits, kind_of, deed_bits, action_bits, sheet_bits}
-use Rattle.domain.specs.Lists.{domain_field, count_at, literal_at, list_at, listed, list_bits}
+use Rattle.bits.proofs.Laws.{Stands, same_answer, both_read, Piece, tested_piece, piece_made, piece_then, piece_by, FirstAndRest, none_piece, cons_piece}
+use Rattle.domain.specs.Layout.{effect_at, effects_at, clash_place, working_at, sensing_at, deed_at, row_at, action_at, actions_at, groups_at, all_groups_at, goals_at, rows_at, grouped_at, facts_at, counts_at, sheet_at, sheet_of, effect_bits, kind_of, deed_bits, action_bits, sheet_bits}
+use Rattle.domain.specs.Lists.{listed, list_bits}
 use Rattle.domain.specs.Sheet.{Deed, works, senses, Action, Sheet, clash_free, rising_effects, lawful_deed, lawful_action, each, lawful}
 use Rattle.domain.specs.declared.action.Effect.{Effect}
 use Rattle.domain.specs.declared.refusal.Refusal.{Refusal}

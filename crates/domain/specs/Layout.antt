@@ -1,5 +1,5 @@
 -- The packed layout of a domain: what bytes read as, and what a sheet is written as. Assumes nothing.
-use Rattle.std.specs.Prelude.{ℕ, zero, suc, ◌+◌, ◌-◌, Bool, true, false, cond, List, [], ◌∷◌, ◌++◌, length, Ok, Err, Result, ◌==◌, nat_le, nat_lt}
+use Rattle.std.specs.Prelude.{ℕ, zero, suc, ◌+◌, ◌-◌, Bool, cond, List, [], ◌∷◌, ◌++◌, length, Ok, Err, Result, ◌==◌, nat_le, nat_lt}
 use Rattle.std.specs.List.{flat_map}
 use Rattle.bits.specs.Bits.{numeral, bits_of, packed}
 use Rattle.bits.specs.Fields.{ending, followed, after, refused_as}

@@ -1,5 +1,5 @@
 -- What the records of a domain hold, as the sheet says it. Assumes nothing.
-use Rattle.std.specs.Prelude.{ℕ, List, [], ◌++◌, map, take, Ok, Err, Result}
+use Rattle.std.specs.Prelude.{ℕ, List, ◌++◌, map, take, Ok, Err, Result}
 use Rattle.domain.specs.Sheet.{Deed, works, senses, Action, Sheet}
 use Rattle.domain.specs.declared.action.Effect.{Effect}
 use Rattle.domain.specs.declared.action.Effects.{Effects}

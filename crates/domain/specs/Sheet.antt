@@ -1,5 +1,5 @@
 -- What a domain sheet says, and when it is lawful. Assumes nothing.
-use Rattle.std.specs.Prelude.{ℕ, ◌+◌, ◌/◌, Bool, true, false, cond, not, ◌&&◌, ◌||◌, List, [], ◌∷◌, ◌++◌, length, ◌==◌, bit_and, nat_le, nat_lt}
+use Rattle.std.specs.Prelude.{ℕ, ◌+◌, ◌/◌, Bool, true, false, not, ◌&&◌, ◌||◌, List, [], ◌∷◌, ◌++◌, length, ◌==◌, bit_and, nat_le, nat_lt}
 use Rattle.literals.specs.Literals.{opposite, opposites}
 use Rattle.domain.specs.Lists.{listed}
 use Rattle.domain.specs.declared.action.Effect.{Effect}

@@ -1,17 +1,16 @@
 -- One turn of each loop of the sweeps. Assumes nothing.
-use Rattle.std.proofs.Common.{◌≡◌, ℕ, suc, ◌+◌, ◌-◌, ◌<◌, ◌≤◌, Bool, true, false, not, ◌≢◌, ◌⊎◌, List, [], length, get_or, take, set, sym, refl, ap, ◌∙◌, subst, ⊎_elim, arith}
+use Rattle.std.proofs.Common.{◌≡◌, ℕ, suc, ◌+◌, ◌-◌, ◌<◌, ◌≤◌, true, false, not, ◌≢◌, List, [], length, sym, ap, ◌∙◌, ⊎_elim, arith}
 use Rattle.std.proofs.lemmas.Bool.{both_ways, not-true, not-false}
 use Rattle.literals.specs.Recorded.{recorded}
 use Rattle.literals.specs.Tables.{same}
 use Rattle.literals.specs.declared.orders.Orders.{Orders}
 use Rattle.literals.specs.declared.table.Table.{Table}
 use Rattle.literals.proofs.Laws.{same_decides}
-use Rattle.domain.specs.Accessors.{effects_of}
 use Rattle.domain.specs.Domains.{sheet}
 use Rattle.domain.specs.Sheet.{Sheet}
 use Rattle.domain.specs.declared.record.Domain.{Domain}
 use Rattle.knowledge.specs.Questions.{Question}
-use Rattle.knowledge.specs.Sweeps.{all_grouped, between, put_both, turned, passed, sweep, sweeps, room}
+use Rattle.knowledge.specs.Sweeps.{turned, passed, sweep, sweeps, room}
 use Rattle.reasoner.proofs.Laws.{is_table, few_recorded}
 use Rattle.knowledge.proofs.Laws.{Fitting, fitting_of, sweep_falls, sweeps_done, sweeps_again}
 

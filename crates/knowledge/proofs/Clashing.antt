@@ -1,5 +1,5 @@
 -- When a table shows a literal and its opposite at one moment. Assumes nothing.
-use Rattle.std.proofs.Common.{◌≡◌, ℕ, zero, suc, true, false, not, eqb, ◌⊎◌, List, [], ◌∷◌, sym, refl, ◌∙◌, ⊎_elim}
+use Rattle.std.proofs.Common.{◌≡◌, ℕ, zero, suc, true, false, not, eqb, List, [], ◌∷◌, sym, refl, ◌∙◌, ⊎_elim}
 use lib.Bits.{bit_and}
 use Rattle.std.proofs.lemmas.Bool.{and_parts, and_from, or_cases, or_parts, both_ways, not-true, not-false, eqb-true, eqb-false}
 use Rattle.literals.specs.Literals.{opposite, opposites, has}

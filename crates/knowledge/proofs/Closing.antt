@@ -1,16 +1,16 @@
 -- Sweeps end in the least closed table. Assumes nothing.
-use Rattle.std.proofs.Common.{◌≡◌, ℕ, zero, suc, ◌+◌, ◌-◌, ◌^◌, ◌<◌, ◌≤◌, Bool, true, false, cond, ◌&&◌, ◌||◌, eqb, ltb, leb, ◌≢◌, ◌⊎◌, List, [], ◌∷◌, length, get_or, set, sym, refl, ap, ◌∙◌, subst, inl, inr, ⊎_elim, arith}
-use lib.Bits.{bit_and, bit_or}
+use Rattle.std.proofs.Common.{◌≡◌, ℕ, zero, suc, ◌+◌, ◌-◌, ◌^◌, ◌<◌, ◌≤◌, Bool, true, false, cond, ◌&&◌, ltb, leb, ◌≢◌, ◌⊎◌, List, [], ◌∷◌, length, get_or, set, sym, refl, ap, ◌∙◌, subst, inl, inr, ⊎_elim, arith}
+use lib.Bits.{bit_and}
 use Rattle.std.proofs.lemmas.List.{length-set}
-use Rattle.std.proofs.lemmas.Bool.{cases_Bool, cases_eq, cases_lt, and_parts, and_from, and_right, or_cases, both_ways, eq-eqb, ltb-true, lt-ltb, leb-true, le-leb}
+use Rattle.std.proofs.lemmas.Bool.{cases_Bool, cases_eq, cases_lt, and_right, lt-ltb, le-leb}
 use Rattle.std.proofs.lemmas.Bool.Decides.{nat_tests}
 use Rattle.literals.specs.Literals.{fluent, has, all}
 use Rattle.literals.specs.Tables.{AreSets, shows, empty, same}
-use Rattle.literals.proofs.Laws.{has-and, has_all, has-covers, covers_le, same_decides, same_facts, and_below, all_below, or_below, shows-empty, length-empty, empty_sets, has_below}
+use Rattle.literals.proofs.Laws.{has-and, has_all, has-covers, covers_le, same_decides, and_below, or_below, shows-empty, length-empty, empty_sets, has_below}
 use Rattle.domain.specs.Sheet.{lawful}
-use Rattle.knowledge.specs.Questions.{Question, latest, in_reach, counts, IsTable, Askable}
+use Rattle.knowledge.specs.Questions.{Question, latest, counts, IsTable, Askable}
 use Rattle.knowledge.specs.Rules.{Facts, Closed, effects_at}
-use Rattle.knowledge.specs.Sweeps.{sweep, sweeps, room, told_from, with_initial, start, closure}
+use Rattle.knowledge.specs.Sweeps.{sweep, sweeps, room, told_from, start, closure}
 use Rattle.knowledge.proofs.Lawful.{exclusive, fluents_few, groups_small, initial_small}
 use Rattle.knowledge.proofs.Least.{Least}
 use Rattle.knowledge.proofs.LeftOver.{in_left, in_right, in_either, one_of_mono}

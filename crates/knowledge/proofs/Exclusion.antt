@@ -1,5 +1,5 @@
 -- What the effects of one action obey on a lawful sheet. Assumes nothing.
-use Rattle.std.proofs.Common.{◌≡◌, ℕ, ◌^◌, ◌<◌, Bool, true, List}
+use Rattle.std.proofs.Common.{◌≡◌, ℕ, ◌^◌, ◌<◌, true, List}
 use Rattle.literals.specs.Literals.{fluent, opposite, has}
 use Rattle.domain.specs.declared.action.Effect.{Effect}
 use Rattle.knowledge.specs.Worlds.{Among}

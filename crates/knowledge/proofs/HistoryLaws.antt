@@ -1,5 +1,5 @@
 -- The history reasoner shows what is known and keeps the laws, given that its closure is the least closed table. Assumes nothing.
-use Rattle.std.proofs.Common.{◌≡◌, ℕ, ◌<◌, ◌≤◌, Bool, true, false, ◌⊎◌, List, sym, refl, ap, ◌∙◌, subst, inl, inr, ⊎_elim, arith}
+use Rattle.std.proofs.Common.{◌≡◌, ℕ, ◌<◌, ◌≤◌, true, false, ◌⊎◌, List, sym, refl, ap, ◌∙◌, subst, inl, inr, ⊎_elim, arith}
 use Rattle.std.proofs.lemmas.Bool.{cases_Bool, and_parts, and_from}
 use Rattle.literals.specs.Literals.{opposite}
 use Rattle.literals.specs.Tables.{shows, full, is_full}
@@ -15,7 +15,6 @@ use Rattle.knowledge.proofs.Closing.{closure_least as least-of}
 use Rattle.knowledge.proofs.Clashing.{Clashes, clash_some, clash_none}
 use Rattle.knowledge.proofs.Extended.{reach_more, reach_less, more_calm, more_shown, less_shown}
 use Rattle.knowledge.proofs.Lawful.{fluents_few}
-use Rattle.knowledge.proofs.Least.{Least}
 use Rattle.knowledge.proofs.Moving.{not_both}
 use Rattle.knowledge.proofs.Reach.{reached, least_reach, shown_is_known, known_is_shown, reach_full, full_reach}
 use Rattle.knowledge.proofs.Sound.{true_closed}

@@ -1,5 +1,5 @@
 -- The least closed table of a question. Assumes nothing.
-use Rattle.std.proofs.Common.{◌≡◌, ℕ, Bool, true, List}
+use Rattle.std.proofs.Common.{◌≡◌, ℕ, true, List}
 use Rattle.literals.specs.Tables.{shows}
 use Rattle.knowledge.specs.Questions.{Question, IsTable}
 use Rattle.knowledge.specs.Rules.{Facts, Closed}

@@ -1,11 +1,11 @@
 -- The members of a set such that all others are known, and what groups give. Assumes nothing.
-use Rattle.std.proofs.Common.{◌≡◌, ℕ, ◌^◌, ◌<◌, Bool, true, false, cond, not, ◌&&◌, ◌||◌, eqb, ◌≢◌, ◌⊎◌, List, [], ◌∷◌, Some, None, Option, sym, refl, ap, ◌∙◌, inl, inr, ⊎_elim, arith}
+use Rattle.std.proofs.Common.{◌≡◌, ℕ, ◌^◌, ◌<◌, true, false, not, eqb, ◌≢◌, ◌⊎◌, List, [], ◌∷◌, Some, None, Option, sym, refl, ap, ◌∙◌, inl, inr, ⊎_elim, arith}
 use lib.Bits.{bit_and, bit_or}
-use lib.Count.{ones, count_trailing_zeros}
-use Rattle.std.proofs.lemmas.Bool.{cases_Bool, cases_eq, and_parts, and_from, or_cases, or_left, or_right, eq-eqb, ne_eqb, eqb-true, eqb-false, both_ways, not_from_true, not_from_false, not-true, not-false}
+use lib.Count.{ones}
+use Rattle.std.proofs.lemmas.Bool.{cases_Bool, cases_eq, and_parts, and_from, or_cases, or_left, or_right, eq-eqb, ne_eqb, eqb-true, both_ways, not_from_false, not-true}
 use Rattle.std.proofs.lemmas.Bool.Decides.{nat_tests}
-use Rattle.literals.specs.Literals.{opposite, has, single, without, opposites, lowest, literal_at}
-use Rattle.literals.proofs.Laws.{opposite-opposite, has-and, has-or, has-without, has-empty, has_below, has-single, has-opposites, without_below, single_below, and_below, or_below, opposites_below, no_members, ones_none, ones_empty, ones_power, ones_has, has_ones, Lowest, lowest_none, lowest_some}
+use Rattle.literals.specs.Literals.{opposite, has, single, without, opposites, lowest}
+use Rattle.literals.proofs.Laws.{opposite-opposite, has-and, has-or, has-without, has-empty, has_below, has-single, has-opposites, without_below, or_below, opposites_below, no_members, ones_none, ones_empty, ones_power, ones_has, has_ones, lowest_none, lowest_some}
 use Rattle.knowledge.specs.Rules.{Literals, OneOf}
 use Rattle.knowledge.specs.Sweeps.{left_over, grouped, all_grouped}
 use Rattle.knowledge.specs.Worlds.{Among}

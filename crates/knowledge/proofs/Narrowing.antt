@@ -1,8 +1,8 @@
 -- Trying every state leaves just what is true in every agreeing world. Assumes nothing.
-use Rattle.std.proofs.Common.{◌≡◌, ℕ, zero, suc, ◌+◌, ◌*◌, ◌<◌, Bool, true, false, cond, ◌&&◌, eqb, List, [], ◌∷◌, length, sym, refl, ap, ◌∙◌, subst, ⊎_elim, arith}
+use Rattle.std.proofs.Common.{◌≡◌, ℕ, zero, suc, ◌+◌, ◌*◌, ◌<◌, Bool, true, false, cond, eqb, List, length, sym, refl, ap, ◌∙◌, subst, ⊎_elim, arith}
 use Rattle.std.proofs.lemmas.Bool.{cases_Bool, and_parts, and_from, eq-eqb, ne_eqb, both_ways}
 use Rattle.literals.specs.Literals.{opposite, with}
-use Rattle.literals.specs.Tables.{shows, full, common}
+use Rattle.literals.specs.Tables.{shows, full}
 use Rattle.literals.proofs.Laws.{length-common, shows-common, common_sets, length-full, full_sets, same_facts}
 use Rattle.knowledge.specs.AllWorlds.{trace, agrees, narrowed, narrowed_all, in_all_worlds, ShowsTrue}
 use Rattle.knowledge.specs.Questions.{Question, latest, in_reach, true_at, Agrees, IsTable, Askable}

@@ -1,8 +1,7 @@
 -- What the effects of an action give from the facts of two moments. Assumes nothing.
-use Rattle.std.proofs.Common.{◌≡◌, ℕ, ◌^◌, ◌<◌, ◌≤◌, Bool, true, false, ◌⊎◌, List, [], ◌∷◌, sym, refl, ap, ◌∙◌, inl, inr, ⊎_elim, arith}
-use lib.Bits.{bit_or}
+use Rattle.std.proofs.Common.{◌≡◌, ℕ, ◌^◌, ◌<◌, ◌≤◌, true, List, [], ◌∷◌, sym, refl, ◌∙◌, inl, inr, ⊎_elim, arith}
 use Rattle.literals.specs.Literals.{opposite, has, without, opposites}
-use Rattle.literals.proofs.Laws.{opposite-opposite, opposite_below, has_below, has-opposites, or_below, without_below}
+use Rattle.literals.proofs.Laws.{opposite_below, has_below, has-opposites, or_below, without_below}
 use Rattle.domain.specs.declared.action.Effect.{Effect}
 use Rattle.knowledge.specs.Rules.{Literals, Shut, NoneOpen, Between}
 use Rattle.knowledge.specs.Sweeps.{may_come, kept, worked, all_worked, between}

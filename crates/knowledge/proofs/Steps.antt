@@ -1,13 +1,12 @@
 -- What an effect gives from the facts of two moments. Assumes nothing.
-use Rattle.std.proofs.Common.{◌≡◌, ℕ, ◌^◌, ◌<◌, Bool, true, false, cond, not, ◌&&◌, ◌||◌, eqb, ◌≢◌, ◌⊎◌, List, [], ◌∷◌, sym, refl, ap, ◌∙◌, inl, inr, ⊎_elim, arith}
-use lib.Bits.{bit_and, bit_or}
-use Rattle.std.proofs.lemmas.Bool.{cases_Bool, and_parts, and_from, lt-ltb, eq-eqb, eqb-true, both_ways}
-use Rattle.literals.specs.Literals.{opposite, has, single, without, covers, opposites}
+use Rattle.std.proofs.Common.{◌≡◌, ℕ, ◌^◌, ◌<◌, Bool, true, false, cond, ◌&&◌, ◌≢◌, sym, refl, ap, ◌∙◌, ⊎_elim, arith}
+use lib.Bits.{bit_or}
+use Rattle.std.proofs.lemmas.Bool.{and_parts, and_from, lt-ltb, eq-eqb, eqb-true, both_ways}
+use Rattle.literals.specs.Literals.{opposite, has, single, covers, opposites}
 use Rattle.literals.proofs.Laws.{opposite-opposite, has-empty, has-single, has-opposites, single_below, or_below, opposites_below, covers-has, has-covers}
 use Rattle.domain.specs.declared.action.Effect.{Effect}
-use Rattle.knowledge.specs.Rules.{Literals, Between}
-use Rattle.knowledge.specs.Sweeps.{left_over, came, came_not, caused, worked, all_worked}
-use Rattle.knowledge.specs.Worlds.{Among}
+use Rattle.knowledge.specs.Rules.{Literals}
+use Rattle.knowledge.specs.Sweeps.{left_over, came, came_not, caused, worked}
 use Rattle.knowledge.proofs.LeftOver.{in_left, in_right, in_either, left_over_member, left_over_others, others_left_over}
 
 -- each literal of the one is in the other

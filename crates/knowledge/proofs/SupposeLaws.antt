@@ -1,11 +1,10 @@
 -- A reasoner that supposes a fluent both ways keeps the laws that the one below it keeps. Assumes nothing.
-use Rattle.std.proofs.Common.{◌≡◌, ℕ, zero, suc, ◌+◌, ◌*◌, ◌<◌, ◌≤◌, Bool, true, false, cond, ◌&&◌, ◌||◌, eqb, ltb, List, [], ◌∷◌, length, get_or, sym, refl, ap, ◌∙◌, subst, ⊎_elim, arith}
-use lib.Bits.{bit_and}
+use Rattle.std.proofs.Common.{◌≡◌, ℕ, ◌+◌, ◌*◌, ◌<◌, ◌≤◌, Bool, true, false, cond, ◌&&◌, ◌||◌, eqb, ltb, List, length, sym, refl, ap, ◌∙◌, subst, ⊎_elim, arith}
 use Rattle.std.proofs.lemmas.List.{length-set}
 use Rattle.std.proofs.lemmas.Bool.{cases_Bool, and_parts, and_from, or_cases, or_left, or_right, or_from, eq-eqb, ne_eqb, eqb-true, ltb-true, lt-ltb, and_left}
-use Rattle.literals.specs.Literals.{fluent, opposite, has}
+use Rattle.literals.specs.Literals.{fluent, opposite}
 use Rattle.literals.specs.Tables.{common, shows, told, is_full, full}
-use Rattle.literals.proofs.Laws.{length-common, shows-common, common_sets, has-and, and_below, shows-told, told_sets, same_facts, is_full-shows, shows-is_full}
+use Rattle.literals.proofs.Laws.{length-common, shows-common, common_sets, shows-told, told_sets, same_facts, is_full-shows, shows-is_full}
 use Rattle.knowledge.specs.Questions.{Question, latest, in_reach, counts, true_at, Agrees, IsTable}
 use Rattle.knowledge.specs.Reasoning.{Mind, Answerable, Laws, told_instead, one_more}
 use Rattle.knowledge.specs.Supposing.{supposed, suppose_mind}

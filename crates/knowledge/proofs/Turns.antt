@@ -1,18 +1,16 @@
 -- A sweep over a table adds what the rules give, and nothing else. Assumes nothing.
-use Rattle.std.proofs.Common.{◌≡◌, ℕ, zero, suc, ◌+◌, ◌^◌, ◌<◌, ◌≤◌, Bool, true, false, cond, eqb, ◌≢◌, ◌⊎◌, List, [], ◌∷◌, length, get_or, set, sym, refl, ap, ◌∙◌, subst, inl, inr, ⊎_elim, arith}
+use Rattle.std.proofs.Common.{◌≡◌, ℕ, zero, suc, ◌+◌, ◌^◌, ◌<◌, ◌≤◌, Bool, true, cond, ◌≢◌, List, length, get_or, set, sym, refl, ap, ◌∙◌, ⊎_elim, arith}
 use Rattle.std.proofs.lemmas.List.{length-set}
 use Rattle.std.proofs.lemmas.Bool.{cases_eq, eq-eqb, ne_eqb}
 use Rattle.literals.specs.Literals.{has}
-use Rattle.literals.specs.Tables.{AreSets, shows}
+use Rattle.literals.specs.Tables.{shows}
 use Rattle.literals.proofs.Laws.{put_sets, shows-put}
-use Rattle.domain.specs.declared.action.Effect.{Effect}
 use Rattle.knowledge.specs.Questions.{Question, latest, IsTable}
-use Rattle.knowledge.specs.Rules.{Literals, Facts, OneOf, Between, effects_at, Closed}
+use Rattle.knowledge.specs.Rules.{Facts, OneOf, Between, effects_at, Closed}
 use Rattle.knowledge.specs.Sweeps.{all_grouped, between, put_both, turned, passed, sweep}
 use Rattle.knowledge.specs.Worlds.{Among}
 use Rattle.knowledge.proofs.LeftOver.{one_of_mono, in_all_grouped, all_grouped_gives, all_grouped_only, all_grouped_below}
 use Rattle.knowledge.proofs.Pairs.{Fit, between_mono, between_grows, between_grows_next, between_gives, between_only, between_below}
-use Rattle.knowledge.proofs.Steps.{◌⊑◌}
 
 -- the facts that a table shows are among others
 abbrev pub Within : List ℕ → Facts → Type 0

@@ -1,6 +1,6 @@
 -- What is true in all worlds that agree, found by trying every state. Assumes nothing.
-use Rattle.std.specs.Prelude.{◌≡◌, ℕ, zero, suc, ◌+◌, ◌*◌, Bool, true, false, cond, ◌&&◌, List, [], ◌∷◌, set, ◌==◌, bit_and, bit_or, count_ones, slice_index, slice_set}
-use Rattle.literals.specs.Literals.{has, with, without, covers, opposites, all}
+use Rattle.std.specs.Prelude.{◌≡◌, ℕ, zero, suc, ◌+◌, ◌*◌, Bool, true, cond, ◌&&◌, List, [], ◌∷◌, ◌==◌, bit_and, bit_or, count_ones, slice_index, slice_set}
+use Rattle.literals.specs.Literals.{with, without, covers, opposites, all}
 use Rattle.literals.specs.Tables.{shows, empty, full, common}
 use Rattle.domain.specs.Accessors.{effects_of}
 use Rattle.domain.specs.Sheet.{Sheet, each}

@@ -1,5 +1,5 @@
 -- What the history reasoner promises beyond the laws. Assumes nothing.
-use Rattle.std.specs.Prelude.{◌≡◌, ℕ, Bool, true, List}
+use Rattle.std.specs.Prelude.{◌≡◌, ℕ, true, List}
 use Rattle.literals.specs.Literals.{opposite}
 use Rattle.literals.specs.Tables.{shows, full}
 use Rattle.knowledge.specs.Questions.{Question, latest}

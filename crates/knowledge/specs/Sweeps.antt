@@ -1,5 +1,5 @@
 -- Closing a table of facts by sweeps over the moments. Assumes nothing.
-use Rattle.std.specs.Prelude.{ℕ, zero, suc, ◌+◌, ◌-◌, ◌^◌, Bool, true, false, cond, not, ◌&&◌, ◌||◌, List, [], ◌∷◌, length, set, ◌==◌, bit_and, bit_or, count_ones, slice_index, slice_set}
+use Rattle.std.specs.Prelude.{ℕ, zero, suc, ◌+◌, ◌-◌, ◌^◌, Bool, false, cond, not, ◌&&◌, ◌||◌, List, [], ◌∷◌, length, ◌==◌, bit_and, bit_or, count_ones, slice_index, slice_set}
 use Rattle.std.specs.Int.Count.{count_trailing_zeros}
 use Rattle.literals.specs.Literals.{opposite, has, single, without, covers, opposites, all}
 use Rattle.literals.specs.Tables.{empty, full, same}

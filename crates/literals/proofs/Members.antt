@@ -1,5 +1,5 @@
 -- The members of sets of literals, and what the operations on sets make of them. Assumes nothing.
-use Rattle.std.proofs.Common.{◌≡◌, ℕ, zero, suc, ◌+◌, ◌-◌, ◌*◌, ◌/◌, ◌%◌, ◌^◌, ◌<◌, ◌≤◌, min, Bool, true, false, cond, not, ◌&&◌, ◌||◌, eqb, ltb, set, Some, None, sym, refl, ap, ◌∙◌, ⊎_elim, arith, pow_pos, pow_mono}
+use Rattle.std.proofs.Common.{◌≡◌, ℕ, zero, suc, ◌+◌, ◌-◌, ◌*◌, ◌/◌, ◌%◌, ◌^◌, ◌<◌, ◌≤◌, min, Bool, true, false, cond, not, ◌&&◌, ◌||◌, eqb, ltb, Some, None, sym, refl, ap, ◌∙◌, ⊎_elim, arith, pow_pos, pow_mono}
 use lib.Bits.{bit_and, bit_or, and_le_l, and_le_r, or_lt, xor_lt, or_add_and, xor_add_and}
 use lib.Count.{ones, count_trailing_zeros}
 use lib.Pow.{pow-lt}

@@ -1,5 +1,5 @@
 -- Literals, and sets of them as numbers of 64 binary digits. Literal 2f + 1 says that fluent f is true, and 2f that it is false. Fluents are below 32. Assumes nothing.
-use Rattle.std.specs.Prelude.{ℕ, zero, suc, ◌+◌, ◌-◌, ◌*◌, ◌/◌, ◌%◌, ◌^◌, min, Bool, true, false, cond, ◌&&◌, Some, None, Option, ◌==◌, bit_and, bit_or, bit_xor, nat_lt}
+use Rattle.std.specs.Prelude.{ℕ, zero, suc, ◌+◌, ◌-◌, ◌*◌, ◌/◌, ◌%◌, ◌^◌, min, Bool, cond, ◌&&◌, Some, None, Option, ◌==◌, bit_and, bit_or, bit_xor, nat_lt}
 
 -- the fluent that a literal speaks of
 abbrev pub fluent : ℕ → ℕ

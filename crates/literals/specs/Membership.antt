@@ -1,5 +1,5 @@
 -- What membership in a set of literals obeys. Assumes nothing.
-use Rattle.std.specs.Prelude.{◌≡◌, ℕ, ◌^◌, ◌<◌, Bool, true, false, not, ◌&&◌, ◌||◌, ◌==◌, bit_and, bit_or, nat_lt}
+use Rattle.std.specs.Prelude.{◌≡◌, ℕ, ◌^◌, ◌<◌, true, false, not, ◌&&◌, ◌||◌, ◌==◌, bit_and, bit_or, nat_lt}
 use Rattle.literals.specs.Literals.{fluent, opposite, has, with, without, opposites, covers, all}
 
 pub record Membership : Type 0 where

@@ -1,5 +1,5 @@
 -- Tables: a set of literals for each moment from 0 to 32, as the list of the 33 sets. Assumes nothing.
-use Rattle.std.specs.Prelude.{ℕ, ◌+◌, ◌-◌, ◌^◌, ◌<◌, min, Bool, true, false, ◌&&◌, List, [], ◌∷◌, ◌++◌, take, set, replicate, ◌==◌, bit_and, slice_index, slice_set}
+use Rattle.std.specs.Prelude.{ℕ, ◌+◌, ◌-◌, ◌^◌, ◌<◌, min, Bool, true, false, ◌&&◌, List, [], ◌∷◌, ◌++◌, take, replicate, ◌==◌, bit_and, slice_index, slice_set}
 use Rattle.literals.specs.Literals.{has, with, covers, all}
 
 -- each number is that of a set

@@ -1,13 +1,13 @@
 -- What a comparison of two logs decides. Assumes nothing.
-use Rattle.std.proofs.Common.{◌≡◌, ℕ, ◌≤◌, Bool, true, false, cond, ◌&&◌, leb, List, length, IfOk, Ok, Err, Result, sym, refl, ap, ◌∙◌, subst, ⊎_elim}
-use Rattle.std.proofs.lemmas.Bool.{cases_Bool, and_parts, and_from, leb-true, both_ways}
-use Rattle.literals.specs.Tables.{AreSets, shows, same, common}
+use Rattle.std.proofs.Common.{◌≡◌, ℕ, ◌≤◌, Bool, true, false, cond, ◌&&◌, leb, List, length, IfOk, Ok, Err, Result, sym, refl, ap, ◌∙◌, subst}
+use Rattle.std.proofs.lemmas.Bool.{and_parts, and_from, leb-true}
+use Rattle.literals.specs.Tables.{shows, common}
 use Rattle.literals.proofs.Laws.{same_decides, same_facts, length-common, shows-common, common_sets}
 use Rattle.knowledge.specs.Questions.{IsTable, Askable}
-use Rattle.knowledge.specs.Reasoning.{Mind, Laws, Answerable}
+use Rattle.knowledge.specs.Reasoning.{Mind, Laws}
 use Rattle.knowledge.proofs.Laws.{same_tests}
 use Rattle.logs.specs.Calls.{State, asked_with, history, within, comparing}
-use Rattle.logs.specs.Runs.{ToldShown, Decided}
+use Rattle.logs.specs.Runs.{Decided}
 use Rattle.logs.specs.declared.refusal.Refusal.{Refusal}
 
 module _ (xs ys : List ℕ) (one : IsTable xs) (other : length ys ≡ 33) where

@@ -1,7 +1,7 @@
 -- What holds of logs however they are called. Assumes nothing.
 use Rattle.std.specs.Prelude.{◌≡◌, ℕ, ◌≤◌, Bool, true, false, List, [], ◌∷◌, Ok}
 use Rattle.literals.specs.Tables.{shows, is_full}
-use Rattle.domain.specs.Sheet.{Sheet, lawful}
+use Rattle.domain.specs.Sheet.{lawful}
 use Rattle.knowledge.specs.Questions.{Question, true_at, Agrees}
 use Rattle.knowledge.specs.Reasoning.{Mind}
 use Rattle.knowledge.specs.Worlds as worlds

@@ -4,7 +4,7 @@ use mathlib.Core.Path.{subst₃}
 use Rattle.bits.specs.Fields.{followed}
 use Rattle.plan.specs.Layout.{node_at, plan_at, under, ordered, looked, looked_no}
 use Rattle.plan.specs.Reading.{Added}
-use Rattle.plan.specs.Tree.{Tree, end, order, look, nodes_of, size}
+use Rattle.plan.specs.Tree.{Tree, nodes_of, size}
 use Rattle.plan.specs.declared.node.Node.{Node}
 use Rattle.plan.specs.declared.node.Node.TheVariants.{End, Order, Look}
 use Rattle.plan.specs.declared.refusal.Refusal.{Refusal}

@@ -1,5 +1,5 @@
 -- Bytes read as a plan exactly when they are what it is written as. Assumes nothing.
-use Rattle.std.proofs.Common.{◌≡◌, ℕ, zero, suc, ◌+◌, ◌-◌, ◌<◌, ◌≤◌, Bool, true, false, cond, eqb, List, [], ◌∷◌, ◌++◌, length, Ok, Err, Result, sym, refl, ap, ◌∙◌, subst, arith, length-append, length-take}
+use Rattle.std.proofs.Common.{◌≡◌, ℕ, ◌+◌, eqb, List, length, Ok, sym, ap, ◌∙◌, subst, arith, length-append, length-take}
 use Rattle.std.proofs.lemmas.Bool.{eqb-true}
 use Rattle.bits.specs.Bits.{numeral, bits_of, packed, AreBytes}
 use Rattle.bits.specs.Fields.{ending, followed, after, refused_as}
@@ -9,7 +9,7 @@ use Rattle.plan.specs.Plans.{plan_tree}
 use Rattle.plan.specs.Promises.{ReadsExactly, WrittenOnce}
 use Rattle.plan.specs.Tree.{Tree, Lawful}
 use Rattle.plan.specs.declared.record.Plan.{Plan}
-use Rattle.plan.specs.declared.refusal.Refusal.TheVariants.{Unread, Edition}
+use Rattle.plan.specs.declared.refusal.Refusal.TheVariants.{Unread}
 use Rattle.plan.proofs.NodeBits.{plan_field_reads, plan_field_stands}
 use Rattle.plan.proofs.TreeBits.{Grew, plan_read, plan_reads}
 

@@ -1,14 +1,14 @@
 -- A node that is read stands there in bits, and one that stands there is read. Assumes nothing.
-use Rattle.std.proofs.Common.{◌≡◌, ℕ, zero, suc, ◌+◌, ◌-◌, ◌^◌, ◌<◌, ◌≤◌, Bool, true, false, cond, eqb, ◌≢◌, List, [], ◌∷◌, ◌++◌, length, Ok, Err, Result, refl, ap, ◌∙◌, subst, arith, length-append}
+use Rattle.std.proofs.Common.{◌≡◌, ℕ, ◌+◌, ◌^◌, ◌<◌, Bool, true, false, cond, eqb, ◌≢◌, List, ◌++◌, length, Ok, Err, refl, ap, ◌∙◌, subst, arith, length-append}
 use Rattle.std.proofs.lemmas.Bool.{eqb-true, eqb-false}
 use Rattle.std.proofs.lemmas.Bool.Decides.{nat_tests}
 use Rattle.bits.specs.Bits.{numeral}
-use Rattle.bits.specs.Fields.{field, number_at, followed, refused_as}
+use Rattle.bits.specs.Fields.{field, followed, refused_as}
 use Rattle.bits.proofs.Laws.{Stands, stands_split, stands_join, field_reads, field_stands, length-numeral, both_read, lifted_read, not_refused, same_answer}
 use Rattle.plan.specs.Layout.{plan_field, node_at, tagged_node, named_node, node_bits}
 use Rattle.plan.specs.declared.node.Node.{Node}
 use Rattle.plan.specs.declared.node.Node.TheVariants.{End, Order, Look}
-use Rattle.plan.specs.declared.refusal.Refusal.TheVariants.{Unread, Edition, Tag, TooLarge}
+use Rattle.plan.specs.declared.refusal.Refusal.TheVariants.{Unread, TooLarge}
 
 two_four : (m n : ℕ) → length (numeral 2 m ++ numeral 4 n) ≡ 6
 two_four m n = simp (length-append, length-numeral)

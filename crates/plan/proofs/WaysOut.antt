@@ -1,12 +1,12 @@
 -- What bytes read as, at each way out of the reader. Assumes nothing.
-use Rattle.std.proofs.Common.{◌≡◌, ℕ, Bool, true, false, cond, eqb, ◌≢◌, List, [], Ok, Err, Result, sym, refl, ap, ◌∙◌, subst, arith}
+use Rattle.std.proofs.Common.{◌≡◌, ℕ, cond, ◌≢◌, List, [], Ok, Err, Result, ap, ◌∙◌, arith}
 use Rattle.std.proofs.lemmas.Bool.{eq-eqb, ne_eqb}
 use Rattle.bits.specs.Bits.{bits_of}
 use Rattle.bits.specs.Fields.{ending, followed, after, refused_as}
 use Rattle.bits.specs.declared.refusal.Refusal as bits
 use Rattle.plan.specs.Layout.{plan_field, plan_at, ended, edition_one, read_plan}
 use Rattle.plan.specs.Reading.{Added}
-use Rattle.plan.specs.Tree.{Tree, Lawful, Whole, nodes_of, tree_of, depth, small_actions}
+use Rattle.plan.specs.Tree.{Tree, Whole, nodes_of, tree_of}
 use Rattle.plan.specs.declared.node.Node.{Node}
 use Rattle.plan.specs.declared.refusal.Refusal.{Refusal}
 use Rattle.plan.specs.declared.refusal.Refusal.TheVariants.{Unread, Edition}

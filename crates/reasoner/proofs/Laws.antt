@@ -1,5 +1,5 @@
 -- Every question that code can put is one that can be asked. Assumes nothing.
-use Rattle.std.proofs.Common.{◌≡◌, ℕ, ◌≤◌, length, arith}
+use Rattle.std.proofs.Common.{◌≤◌, length, arith}
 use Rattle.std.proofs.lemmas.List.{length-take-le}
 use Rattle.literals.specs.Recorded.{recorded}
 use Rattle.literals.specs.declared.orders.Orders.{Orders}

@@ -1,4 +1,4 @@
-use Rattle.std.proofs.Common.{◌≡◌, ◌+◌, ◌-◌, ◌<◌, true, false, length, drop, sym, refl, ap, ◌∙◌, add_assoc, arith}
+use Rattle.std.proofs.Common.{◌≡◌, ◌+◌, ◌<◌, false, length, arith}
 use lib.Bits.{and_mask}
 use Rattle.std.proofs.lemmas.List.{drop_more, drop_all}
 use Rattle.bits.specs.Bits.{numeral, put}

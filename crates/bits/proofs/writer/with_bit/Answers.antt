@@ -1,4 +1,4 @@
-use Rattle.std.proofs.Common.{◌≡◌, ◌+◌, ◌-◌, ◌*◌, ◌/◌, ◌%◌, ◌^◌, ◌∙◌, arith}
+use Rattle.std.proofs.Common.{◌≡◌, ◌+◌, ◌-◌, ◌*◌, ◌/◌, ◌%◌, ◌^◌, arith}
 use Rattle.bits.specs.Bits.{with_bit}
 use Rattle.bits.proofs.Packing.{with_bit_is, with_bit_below}
 use Rattle.bits.proofs.writer.with_bit.Goals as goal

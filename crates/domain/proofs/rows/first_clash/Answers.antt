@@ -1,4 +1,4 @@
-use Rattle.std.proofs.Common.{◌≡◌, ◌-◌, sym, ap, ◌∙◌, arith}
+use Rattle.std.proofs.Common.{◌≡◌, ◌-◌, arith}
 use Rattle.domain.proofs.Clashes.{first_here, first_later, first_never}
 use Rattle.domain.proofs.rows.first_clash.Goals as goal
 

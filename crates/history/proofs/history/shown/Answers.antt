@@ -1,4 +1,4 @@
-use Rattle.std.proofs.Common.{◌≡◌, true, false, cond, sym, refl, ap, ◌∙◌}
+use Rattle.std.proofs.Common.{◌≡◌, true, false, sym, refl, ap, ◌∙◌}
 use Rattle.knowledge.specs.Sweeps.{clash, closure, history}
 use Rattle.reasoner.specs.Asking.{question}
 use Rattle.history.proofs.history.shown.Goals as goal

@@ -1,4 +1,4 @@
-use Rattle.std.proofs.Common.{◌≡◌, ◌≤◌, Bool, true, false, sym, ◌∙◌, arith}
+use Rattle.std.proofs.Common.{◌≤◌, Bool, true, false, sym, ◌∙◌, arith}
 use mir.Val.{bool_byte}
 use Rattle.domain.specs.Domains.{sheet}
 use Rattle.domain.proofs.Laws.{lawful_fluents, lawful_sensed}

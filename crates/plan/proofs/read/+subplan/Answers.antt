@@ -1,9 +1,7 @@
-use Rattle.std.proofs.Common.{◌≡◌, length, take, Ok, Err, sym, refl, ap, ◌∙◌, subst, arith, rules}
+use Rattle.std.proofs.Common.{◌≡◌, length, take, Err, sym, refl, ap, ◌∙◌, arith}
 use Rattle.std.proofs.lemmas.List.{length-take-le}
 use Rattle.std.proofs.lemmas.Result.{err_from_is_err_and}
 use Rattle.bits.specs.Bits.{bits_of}
-use Rattle.plan.specs.Layout.{node_at}
-use Rattle.plan.specs.Reading.{Added}
 use Rattle.plan.specs.declared.record.Nodes.{Nodes}
 use Rattle.plan.proofs.Adding.{added_refused, added_end, added_order, added_look_refused, added_look, read_as}
 use Rattle.plan.proofs.read.+subplan.Goals as goal

@@ -1,15 +1,10 @@
-use Rattle.std.proofs.Common.{◌≡◌, ℕ, List, [], length, take, Ok, Err, Result, sym, refl, ap, ◌∙◌, subst, subst₂, arith, Bor}
-use Rattle.std.proofs.lemmas.List.{length-take-le}
+use Rattle.std.proofs.Common.{◌≡◌, ℕ, List, Result, sym, ap, ◌∙◌, subst, subst₂, Bor}
 use Rattle.std.proofs.lemmas.Result.{err_from_is_err_and}
 use Rattle.bits.specs.Bits.{bits_of}
-use Rattle.bits.specs.Fields.{ending, after, refused_as}
+use Rattle.bits.specs.Fields.{ending}
 use Rattle.bits.specs.declared.refusal.Refusal as bits
 use Rattle.plan.specs.Layout.{plan_field}
-use Rattle.plan.specs.Plans.{spelled}
-use Rattle.plan.specs.Reading.{Added}
-use Rattle.plan.specs.Tree.{tree_of}
 use Rattle.plan.specs.declared.refusal.Refusal.{Refusal}
-use Rattle.plan.specs.declared.refusal.Refusal.TheVariants.{Unread}
 use Rattle.plan.proofs.Adding.{read_as}
 use Rattle.plan.proofs.Exact.{reads_exactly}
 use Rattle.plan.proofs.WaysOut.{edition_unread, wrong_edition, plan_refused, all_read, whole_nodes}

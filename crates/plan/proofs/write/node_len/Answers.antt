@@ -1,6 +1,5 @@
-use Rattle.std.proofs.Common.{◌≡◌, ℕ, ◌≤◌, length, sym, ap, ◌∙◌, arith, length-append}
+use Rattle.std.proofs.Common.{sym, arith, length-append}
 use Rattle.bits.proofs.Laws.{length-numeral}
-use Rattle.plan.specs.Layout.{node_bits}
 use Rattle.plan.proofs.write.node_len.Goals as goal
 
 pub returns-in-End : goal.returns-in-End

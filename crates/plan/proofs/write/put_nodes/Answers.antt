@@ -1,11 +1,9 @@
-use Rattle.std.proofs.Common.{◌≡◌, ℕ, ◌+◌, ◌<◌, Bool, true, false, List, [], ◌∷◌, ◌++◌, length, get_or, take, drop, sym, refl, ap, ◌∙◌, subst, append-nil, take-append-drop}
-use Rattle.std.proofs.lemmas.List.{take_more, drop_more, take_all}
+use Rattle.std.proofs.Common.{◌+◌, drop, refl, ap, ◌∙◌}
+use Rattle.std.proofs.lemmas.List.{take_all}
 use Rattle.std.proofs.lemmas.Result.{err_from_is_err_and}
 use Rattle.std.specs.List.{flat_map}
-use Rattle.bits.specs.Fields.{Wrote}
-use Rattle.bits.proofs.Laws.{wrote_then, wrote_refused, wrote_none, wrote_as, joined-append, joined-take, joined_split}
+use Rattle.bits.proofs.Laws.{wrote_then, wrote_refused, wrote_none, wrote_as, joined-take, joined_split}
 use Rattle.plan.specs.Layout.{node_bits}
-use Rattle.plan.specs.declared.node.Node.{Node}
 use Rattle.plan.specs.declared.node.Node.TheVariants.{End}
 use Rattle.plan.proofs.write.put_nodes.Goals as goal
 

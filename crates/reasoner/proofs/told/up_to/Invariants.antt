@@ -1,4 +1,4 @@
-use Rattle.std.proofs.Common.{◌≡◌, suc, ◌+◌, ◌-◌}
+use Rattle.std.proofs.Common.{◌≡◌, suc, ◌-◌}
 use Rattle.literals.specs.Tables.{empty}
 use Rattle.knowledge.specs.Sweeps.{told_from}
 use Rattle.reasoner.proofs.told.up_to.Given as goal

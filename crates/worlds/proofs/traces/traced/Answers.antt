@@ -1,4 +1,4 @@
-use Rattle.std.proofs.Common.{◌≡◌, length, refl, ap, ◌∙◌, arith}
+use Rattle.std.proofs.Common.{◌≡◌, length, refl, ◌∙◌, arith}
 use Rattle.literals.specs.Tables.{empty}
 use Rattle.domain.specs.Domains.{sheet}
 use Rattle.worlds.proofs.Rounds.{trace-first, trace_more, trace_done}

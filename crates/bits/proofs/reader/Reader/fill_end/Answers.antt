@@ -1,4 +1,4 @@
-use Rattle.std.proofs.Common.{◌≡◌, ◌<◌, length, sym, ◌∙◌, arith}
+use Rattle.std.proofs.Common.{◌<◌, length, sym, ◌∙◌, arith}
 use Rattle.bits.specs.Bits.{bits_of}
 use Rattle.bits.proofs.Numbers.{length-bits_of}
 use Rattle.bits.proofs.Steps.{fill_stops, fill_found, fill_goes_on}

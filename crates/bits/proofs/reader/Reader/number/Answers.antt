@@ -1,4 +1,4 @@
-use Rattle.std.proofs.Common.{◌≡◌, sym, refl, ◌∙◌, arith}
+use Rattle.std.proofs.Common.{◌≡◌, refl, arith}
 use Rattle.bits.specs.Bits.{number, bits_of}
 use Rattle.bits.specs.Fields.{number_at}
 use Rattle.bits.proofs.Numbers.{number_at_below, as_number, as_number_le}

@@ -1,6 +1,5 @@
-use Rattle.std.proofs.Common.{ℕ, ◌+◌, length, Ok, Err, Result, sym, refl, ap, arith, rules}
+use Rattle.std.proofs.Common.{◌+◌, Ok, Err, refl, rules}
 use Rattle.bits.specs.Bits.{bytes_for}
-use Rattle.bits.specs.declared.refusal.TooShort.{TooShort}
 use Rattle.bits.proofs.Writing.{wrote_field}
 use Rattle.bits.proofs.writer.Writer.put_field.Goals as goal
 

@@ -1,4 +1,4 @@
-use Rattle.std.proofs.Common.{◌++◌, length, drop, sym, ap, ◌∙◌, arith}
+use Rattle.std.proofs.Common.{◌++◌, drop, sym, ap, ◌∙◌, arith}
 use Rattle.bits.specs.Bits.{packed}
 use Rattle.bits.proofs.Laws.{length-packed}
 use Rattle.domain.specs.Domains.{sheet}

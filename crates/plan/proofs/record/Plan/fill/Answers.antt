@@ -1,8 +1,7 @@
-use Rattle.std.proofs.Common.{◌≡◌, ◌++◌, length, drop, sym, ap, ◌∙◌, arith}
-use Rattle.std.specs.List.{flat_map}
-use Rattle.bits.specs.Bits.{numeral, packed, holding}
+use Rattle.std.proofs.Common.{◌++◌, drop, sym, ap, ◌∙◌, arith}
+use Rattle.bits.specs.Bits.{packed}
 use Rattle.bits.proofs.Laws.{length-packed}
-use Rattle.plan.specs.Layout.{node_bits, plan_bits, written}
+use Rattle.plan.specs.Layout.{plan_bits, written}
 use Rattle.plan.specs.Plans.{plan_tree}
 use Rattle.plan.proofs.record.Plan.fill.Goals as goal
 
