@@ -1,5 +1,5 @@
 ghost use Rattle.std.specs.Prelude.{◌≡◌, ℕ, ◌+◌, ◌*◌, ◌^◌, ◌<◌, ◌≤◌, length, is_ok, if◌then◌else◌};
-ghost use Rattle.bits.specs.Bits.{numeral, put as put-bits, put_bit, with_bit};
+ghost use Rattle.bits.specs.Bits.{numeral, put as put_bits, put_bit, with_bit};
 ghost use Rattle.bits.specs.Fields.{written_field, Wrote};
 
 use crate::refusal::TooShort;
@@ -26,7 +26,7 @@ impl<'a> Writer<'a> {
     pub fn put(&mut self, value: u16, width: Width) -> Result<u128, TooShort>
         ensures value { result ≡ written_field (length self.old.bytes.now) self.old.place width.bits }
         ensures place { self.new.place ≡ (if is_ok result then self.old.place + width.bits else self.old.place) }
-        ensures bytes { self.new.bytes.now ≡ (if is_ok result then put-bits self.old.place (numeral width.bits value) self.old.bytes.now else self.old.bytes.now) }
+        ensures bytes { self.new.bytes.now ≡ (if is_ok result then put_bits self.old.place (numeral width.bits value) self.old.bytes.now else self.old.bytes.now) }
         ensures wrote { Wrote (is_ok result) (numeral width.bits value) self.old.place self.old.bytes.now self.new.place self.new.bytes.now }
         ensures name { self.new.bytes.ghost_name ≡ self.old.bytes.ghost_name }
     {
@@ -37,7 +37,7 @@ impl<'a> Writer<'a> {
     fn put_field(&mut self, value: u16, width: Width) -> Result<u128, TooShort>
         ensures value { result ≡ written_field (length self.old.bytes.now) self.old.place width.bits }
         ensures place { self.new.place ≡ (if is_ok result then self.old.place + width.bits else self.old.place) }
-        ensures bytes { self.new.bytes.now ≡ (if is_ok result then put-bits self.old.place (numeral width.bits value) self.old.bytes.now else self.old.bytes.now) }
+        ensures bytes { self.new.bytes.now ≡ (if is_ok result then put_bits self.old.place (numeral width.bits value) self.old.bytes.now else self.old.bytes.now) }
         ensures wrote { Wrote (is_ok result) (numeral width.bits value) self.old.place self.old.bytes.now self.new.place self.new.bytes.now }
         ensures name { self.new.bytes.ghost_name ≡ self.old.bytes.ghost_name }
     {
@@ -58,7 +58,7 @@ impl<'a> Writer<'a> {
 // The lowest bits of a number from a place of the buffer on.
 fn put_number(bytes: &mut [u8], place: u128, value: u16, width: Width)
     requires { place + width.bits ≤ 8 * length bytes.old }
-    ensures { bytes.new ≡ put-bits place (numeral width.bits value) bytes.old }
+    ensures { bytes.new ≡ put_bits place (numeral width.bits value) bytes.old }
 {
     for i in 0..width.bits() {
         let bit = value >> (width.bits() - 1 - i) & 1 == 1;

@@ -11,7 +11,7 @@ use Rattle.knowledge.specs.Rules.{Facts, Closed, Known}
 use Rattle.knowledge.specs.Sweeps.{closure, clash, history}
 use Rattle.knowledge.specs.Worlds.{State, after}
 use Rattle.knowledge.proofs.States.{same_tests}
-use Rattle.knowledge.proofs.Closing.{closure_least as least-of}
+use Rattle.knowledge.proofs.Closing.{closure_least as least_of}
 use Rattle.knowledge.proofs.Clashing.{Clashes, clash_some, clash_none}
 use Rattle.knowledge.proofs.Extended.{reach_more, reach_less, more_calm, more_shown, less_shown}
 use Rattle.knowledge.proofs.Lawful.{fluents_few}
@@ -47,7 +47,7 @@ pub calm_or_upset : (q : Question) → Askable q → Calm q ⊎ Upset q
 unfolding history
 calm_or_upset q asked =
     ⊎_elim
-    (λ (h : clash (closure q) ≡ true). inr (record { clashes = clash_some (closure q) (least-of q asked).table.small h; is_full_table = rw h refl }))
+    (λ (h : clash (closure q) ≡ true). inr (record { clashes = clash_some (closure q) (least_of q asked).table.small h; is_full_table = rw h refl }))
     (λ (h : clash (closure q) ≡ false). inl (record { clash_free = clash_none (closure q) h; is_closure = rw h refl }))
     (cases_Bool (clash (closure q)))
 
@@ -69,10 +69,10 @@ calm_closure q asked none = ⊎_elim (λ (k : Calm q). k.is_closure) (λ (u : Up
 -- ---- what is known
 
 pub closure_known : (q : Question) → Askable q → (t l : ℕ) → shows (closure q) t l ≡ true → Known q t l
-closure_known q asked t l h = shown_is_known q (closure q) (least-of q asked) t l h
+closure_known q asked t l h = shown_is_known q (closure q) (least_of q asked) t l h
 
 pub known_closure : (q : Question) → Askable q → (t l : ℕ) → Known q t l → shows (closure q) t l ≡ true
-known_closure q asked t l known = known_is_shown q (closure q) (least-of q asked) t l known
+known_closure q asked t l known = known_is_shown q (closure q) (least_of q asked) t l known
 
 -- where some facts clash, what is known is not consistent
 clash_inconsistent : (q : Question) → Askable q → Clashes (closure q) → Consistent q → ⊥
@@ -103,22 +103,22 @@ shows_known q asked =
 
 pub history_table : (q : Question) → Askable q → IsTable (history q)
 history_table q asked =
-    by_clash q asked IsTable (λ none. (least-of q asked).table)
+    by_clash q asked IsTable (λ none. (least_of q asked).table)
     (λ c. record { long = length-full q.sheet.fluents (latest q); small = full_sets q.sheet.fluents (latest q) })
 
 pub history_reach : (q : Question) → Askable q → (t l : ℕ) → shows (history q) t l ≡ true → in_reach q t l ≡ true
 history_reach q asked t l =
     by_clash q asked (λ sets. shows sets t l ≡ true → in_reach q t l ≡ true)
-    (λ none h. least_reach q asked.lawful_sheet (closure q) (least-of q asked) t l h)
+    (λ none h. least_reach q asked.lawful_sheet (closure q) (least_of q asked) t l h)
     (λ c h. full_reach q asked t l h)
 
 -- each fact that follows by the rules is shown
 pub closure_shown : (q : Question) → Askable q → (t l : ℕ) → shows (closure q) t l ≡ true → shows (history q) t l ≡ true
 closure_shown q asked t l h =
-    by_clash q asked (λ sets. shows sets t l ≡ true) (λ none. h) (λ c. reach_full q asked t l (least_reach q asked.lawful_sheet (closure q) (least-of q asked) t l h))
+    by_clash q asked (λ sets. shows sets t l ≡ true) (λ none. h) (λ c. reach_full q asked t l (least_reach q asked.lawful_sheet (closure q) (least_of q asked) t l h))
 
 pub history-told : (q : Question) → Askable q → (t l : ℕ) → counts q t l ≡ true → shows (history q) t l ≡ true
-history-told q asked t l h = closure_shown q asked t l ((least-of q asked).closed.as_told t l h)
+history-told q asked t l h = closure_shown q asked t l ((least_of q asked).closed.as_told t l h)
 
 -- a clash stays where more is shown
 still : (xs ys : List ℕ) → ((t l : ℕ) → shows xs t l ≡ true → shows ys t l ≡ true) → Clashes xs → Clashes ys
@@ -131,7 +131,7 @@ module _ (q : Question) (told : List ℕ) (asked : Askable q) (asked_more : Aska
     (more : (t l : ℕ) → counts q t l ≡ true → counts (told_instead q told) t l ≡ true) where
   more_follows : (t l : ℕ) → shows (closure q) t l ≡ true → shows (closure (told_instead q told)) t l ≡ true
   more_follows t l h =
-      (least-of q asked).least (λ u m. shows (closure (told_instead q told)) u m) (told_less q told more _ (least-of (told_instead q told) asked_more).closed) t l h
+      (least_of q asked).least (λ u m. shows (closure (told_instead q told)) u m) (told_less q told more _ (least_of (told_instead q told) asked_more).closed) t l h
 
   pub history-more_told : (t l : ℕ) → shows (history q) t l ≡ true → shows (history (told_instead q told)) t l ≡ true
   history-more_told t l h =
@@ -151,21 +151,21 @@ module _ (q : Question) (asked : Askable q) where
   again = told_instead q (closure q)
 
   again_asked : Askable again
-  again_asked = told_asked (closure q) (least-of q asked).table
+  again_asked = told_asked (closure q) (least_of q asked).table
 
   again_told : (t l : ℕ) → counts q t l ≡ true → counts again t l ≡ true
   again_told t l h =
-      and_from (shows (closure q) t l) (in_reach q t l) ((least-of q asked).closed.as_told t l h) (and_parts (shows q.told t l) (in_reach q t l) h).1
+      and_from (shows (closure q) t l) (in_reach q t l) ((least_of q asked).closed.as_told t l h) (and_parts (shows q.told t l) (in_reach q t l) h).1
 
   again_closed : Closed again (λ t l. shows (closure q) t l)
   again_closed =
-      let closed = (least-of q asked).closed in
+      let closed = (least_of q asked).closed in
       record { initially = closed.initially; as_told = λ t l h. (and_parts (shows (closure q) t l) (in_reach q t l) h).0; one_of = closed.one_of; between = closed.between }
 
   again_same : closure again ≡ closure q
   again_same =
-      let r = least-of again again_asked in
-      let s = least-of q asked in
+      let r = least_of again again_asked in
+      let s = least_of q asked in
       same_facts (closure again) (closure q) (r.table.long ∙ sym s.table.long) r.table.small s.table.small
       (λ t l.
       same_tests (shows (closure again) t l) (shows (closure q) t l)
@@ -183,7 +183,7 @@ module _ (q : Question) (asked : Askable q) where
 
   full_follows : (t l : ℕ) → in_reach q t l ≡ true → shows (closure filled_again) t l ≡ true
   full_follows t l h =
-      (least-of filled_again full_asked).closed.as_told t l (and_from (shows (full q.sheet.fluents (latest q)) t l) (in_reach q t l) (reach_full q asked t l h) h)
+      (least_of filled_again full_asked).closed.as_told t l (and_from (shows (full q.sheet.fluents (latest q)) t l) (in_reach q t l) (reach_full q asked t l h) h)
 
   full-told : history (told_instead q (full q.sheet.fluents (latest q))) ≡ full q.sheet.fluents (latest q)
   full-told =
@@ -197,7 +197,7 @@ module _ (q : Question) (asked : Askable q) where
 
 module _ (q : Question) (asked : Askable q) (s : State) (agrees : Agrees q s) where
   closure_true : (t l : ℕ) → shows (closure q) t l ≡ true → true_at q s t l ≡ true
-  closure_true t l h = (least-of q asked).least (λ u m. true_at q s u m) (true_closed q s asked.lawful_sheet agrees) t l h
+  closure_true t l h = (least_of q asked).least (λ u m. true_at q s u m) (true_closed q s asked.lawful_sheet agrees) t l h
 
   pub history_sound : (t l : ℕ) → shows (history q) t l ≡ true → true_at q s t l ≡ true
   history_sound t l =
@@ -216,10 +216,10 @@ module _ (q : Question) (a : ℕ) (asked : Askable q) (asked_more : Askable (one
   p = one_more q a
 
   follows_more : (t l : ℕ) → shows (closure q) t l ≡ true → shows (closure p) t l ≡ true
-  follows_more = less_shown q a (closure q) (closure p) (least-of q asked) (least-of p asked_more)
+  follows_more = less_shown q a (closure q) (closure p) (least_of q asked) (least_of p asked_more)
 
   calm_more : (Clashes (closure q) → ⊥) → Clashes (closure p) → ⊥
-  calm_more none = more_calm q a asked.lawful_sheet (closure q) (least-of q asked) none untold (closure p) (least-of p asked_more)
+  calm_more none = more_calm q a asked.lawful_sheet (closure q) (least_of q asked) none untold (closure p) (least_of p asked_more)
 
   pub history_later : (t l : ℕ) → t ≤ latest q → shows (history p) t l ≡ shows (history q) t l
   history_later t l soon =
@@ -227,7 +227,7 @@ module _ (q : Question) (a : ℕ) (asked : Askable q) (asked_more : Askable (one
       (λ none.
       ap (λ sets. shows sets t l) (calm_closure p asked_more (calm_more none))
       ∙ same_tests (shows (closure p) t l) (shows (closure q) t l)
-      (more_shown q a asked.lawful_sheet (closure q) (least-of q asked) none untold (closure p) (least-of p asked_more) t l soon)
+      (more_shown q a asked.lawful_sheet (closure q) (least_of q asked) none untold (closure p) (least_of p asked_more) t l soon)
       (follows_more t l))
       (λ c.
       ap (λ sets. shows sets t l) (upset_full p asked_more (still (closure q) (closure p) follows_more c))
@@ -242,7 +242,7 @@ module _ (q : Question) (a : ℕ) (asked : Askable q) (asked_more : Askable (one
       let all_there : is_full q.sheet.fluents (latest p) (closure p) ≡ true =
       subst (λ sets. is_full q.sheet.fluents (latest p) sets ≡ true) (calm_closure p asked_more (calm_more none)) h in
       let shown : (t l : ℕ) → in_reach p t l ≡ true → shows (closure p) t l ≡ true = λ t l k.
-      is_full-shows q.sheet.fluents (latest p) (closure p) (least-of p asked_more).table.long all_there t l (reach_full p asked_more t l k) in
+      is_full-shows q.sheet.fluents (latest p) (closure p) (least_of p asked_more).table.long all_there t l (reach_full p asked_more t l k) in
       absurd
       (calm_more none
       (record { moment = 0; literal = 0; here = shown 0 0 (first_reach p asked_more); opposed = shown 0 (opposite 0) (second_reach p asked_more) })))

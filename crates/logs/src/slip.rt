@@ -1,5 +1,5 @@
 // Slips of looks.
-ghost use Rattle.std.specs.Prelude.{◌≡◌, is_ok, if◌then◌else◌};
+ghost use Rattle.std.specs.Prelude.{◌≡◌, ◌≤◌, is_ok, if◌then◌else◌};
 ghost use Rattle.logs.specs.Calls.{answering, answered, losing, ended};
 ghost use Rattle.logs.specs.Logs.{state_of, answered_of, handed_back};
 
@@ -7,7 +7,8 @@ use crate::log::Log;
 use crate::refusal::Refusal;
 use reasoner::reasoner::Reasoner;
 
-// A look that is owed: its action and its moment. A slip must be answered or lost; nobody can let it go, since its drop asks what cannot be.
+// A look that is owed: its action and its moment. A slip must be answered or lost: its drop asks for a moment past the last at which
+// a log looks, so nobody can let go a slip that a look handed out.
 pub struct Slip {
     action: u8,
     moment: u8,
@@ -15,7 +16,7 @@ pub struct Slip {
 
 impl Drop for Slip {
     fn drop(self)
-        requires { ⊥ }
+        requires { 32 ≤ self.moment }
     {
         let Slip {
             action: _,

@@ -1,6 +1,6 @@
 ghost use Rattle.std.specs.Prelude.{◌≡◌, ◌+◌, ◌-◌, ◌≤◌, List, ◌++◌, length, drop};
 ghost use Rattle.plan.specs.Plans.{plan_tree};
-ghost use Rattle.plan.specs.Tree.{Tree, nodes_of, size, depth, ends as tree-ends};
+ghost use Rattle.plan.specs.Tree.{Tree, nodes_of, size, depth, ends as tree_ends};
 ghost use Rattle.plan.specs.declared.node.Node.{Node as PlanNode};
 
 use crate::node::Node;
@@ -16,7 +16,7 @@ impl Plan {
 
     // How many ends there are.
     pub fn ends(&self) -> usize
-        ensures { result ≡ tree-ends (plan_tree self.now) }
+        ensures { result ≡ tree_ends (plan_tree self.now) }
     {
         count_ends(self.nodes())
     }
@@ -31,7 +31,7 @@ impl Plan {
 
 // The ends among the nodes of a plan.
 fn count_ends(nodes: &[Node]) -> usize
-    ensures { (t : Tree) → nodes.now ≡ nodes_of t → result ≡ tree-ends t }
+    ensures { (t : Tree) → nodes.now ≡ nodes_of t → result ≡ tree_ends t }
 {
     let mut count = 0;
     for node in nodes {

@@ -2,9 +2,9 @@
 #![tactic(auto)]
 
 mod bytes;
+mod calls;
 mod domains;
 mod inputs;
-mod logs;
 mod plans;
 mod reasoners;
 mod sets;
