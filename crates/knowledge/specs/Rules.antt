@@ -20,7 +20,7 @@ pub record Shut (facts : Literals) (e : Effect) : Type 0 where
 abbrev pub NoneOpen : List Effect → Literals → ℕ → Type 0
 NoneOpen effects facts l = (e : Effect) → Among e effects → e.literal ≡ l → Shut facts e
 
--- one_of: what a group gives from the facts of moment 0 is among the others
+-- one-of: what a group gives from the facts of moment 0 is among the others
 pub record OneOf (group : ℕ) (from to : Literals) : Type 0 where
   -- one literal gives the opposites of the others
   pub others : (l m : ℕ) → has group l ≡ true → has group m ≡ true → l ≢ m → from l ≡ true → to (opposite m) ≡ true

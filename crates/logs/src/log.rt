@@ -1,5 +1,5 @@
 // A log of orders, looks and told facts.
-ghost use Rattle.std.specs.Prelude.{◌≡◌, true, length, is_ok, IfOk, if◌then◌else◌, Ok, Err, OnOk, nat_lt};
+ghost use Rattle.std.specs.Prelude.{◌≡◌, ◌<◌, true, length, is_ok, IfOk, if◌then◌else◌, Ok, Err, OnOk, nat_lt};
 ghost use Rattle.literals.specs.Recorded.{recorded};
 ghost use Rattle.domain.specs.Accessors.{sensed_of};
 ghost use Rattle.domain.specs.Domains.{sheet};
@@ -92,6 +92,7 @@ impl<R: Reasoner> Log<R> {
     // One look by a sensing action more; the look is owed until its slip is answered or lost.
     pub fn look(&mut self, action: u8) -> Result<Slip, Refusal>
         ensures answered { slip_of result ≡ handed action (latest (state_of self.old)) (looking (R.Reasoner.mind self.old.reasoner) (state_of self.old) action) }
+        ensures early { IfOk result (λ slip. slip.moment < 32) }
         ensures moved { state_of self.new ≡ (if is_ok result then looked (state_of self.old) action else state_of self.old) }
         ensures reasoner { self.new.reasoner ≡ self.old.reasoner }
     {
