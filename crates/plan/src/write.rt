@@ -1,6 +1,6 @@
 ghost use Rattle.std.specs.Prelude.{◌≡◌, ◌≤◌, true, ◌++◌, length, drop, is_ok, if◌then◌else◌};
 ghost use Rattle.std.specs.List.{flat_map};
-ghost use Rattle.bits.specs.Bits.{numeral, put as put_bits};
+ghost use Rattle.bits.specs.Bits.{numeral};
 ghost use Rattle.bits.specs.Fields.{Wrote, Filled};
 ghost use Rattle.plan.specs.Layout.{node_bits, written, written_to};
 ghost use Rattle.plan.specs.Plans.{plan_tree};
