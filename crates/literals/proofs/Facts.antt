@@ -1,6 +1,8 @@
 -- The facts that tables show, and which tables are full or the same. Assumes nothing.
-use Rattle.std.proofs.Common.{◌≡◌, ℕ, zero, suc, ◌+◌, ◌-◌, ◌^◌, ◌<◌, ◌≤◌, Bool, true, false, cond, ◌&&◌, ◌||◌, eqb, ltb, List, [], ◌∷◌, length, get_or, take, set, replicate, Decides, sym, refl, ap, ◌∙◌, ⊎_elim, arith, length-append, length-take}
+use Rattle.std.proofs.Common.{◌≡◌, ℕ, zero, suc, ◌+◌, ◌-◌, ◌^◌, ◌<◌, ◌≤◌, Bool, true, false, cond, ◌&&◌, ◌||◌, eqb, nat_eq, ltb, List, [], ◌∷◌, length, get_or, take, set, replicate, Decides, sym, refl, ap, ◌∙◌, ⊎_elim, arith, length-append, length-take}
 use lib.Bits.{bit_and}
+use lib.Pointwise.{pointwise}
+use Rattle.std.specs.List.{list_all}
 use Rattle.std.proofs.lemmas.Slice.Eq.{compares_Decides}
 use Rattle.std.proofs.lemmas.List.{length-replicate, get_or-replicate, get_or_append_left, get_or-append_right, get_or_past, get_or-set_same, get_or-set_other, get_or-take, set_past, set-append_right, replicate_more, append_assoc, ext_get_or}
 use Rattle.std.proofs.lemmas.Bool.{cases_lt, cases_eq, cond_both, and_parts, and_from, eq-eqb, ne_eqb, ltb-true, lt-ltb}
@@ -122,6 +124,19 @@ same_facts xs ys long small few facts =
 pub same_decides : (xs ys : List ℕ) → Decides (same xs ys) (xs ≡ ys)
 unfolding same
 same_decides = compares_Decides same (record { empty = refl; shorter = λ _ _. refl; longer = λ _ _. refl; heads = λ _ _ _ _. refl })
+
+-- the library's words for the same two tests
+pub pointwise-same : (xs ys : List ℕ) → pointwise nat_eq xs ys ≡ same xs ys
+unfolding same
+pointwise-same [] [] = refl
+pointwise-same [] (y ∷ ys) = refl
+pointwise-same (x ∷ xs) [] = refl
+pointwise-same (x ∷ xs) (y ∷ ys) = ap (λ b. eqb x y && b) (pointwise-same xs ys)
+
+pub list_all-covers : (sets : List ℕ) (part : ℕ) → list_all (λ s. covers s part) sets ≡ each_covers sets part
+unfolding each_covers
+list_all-covers [] part = refl
+list_all-covers (s ∷ sets) part = ap (λ b. covers s part && b) (list_all-covers sets part)
 
 each_covers_at : (sets : List ℕ) (part t : ℕ) → each_covers sets part ≡ true → t < length sets → covers (get_or sets t 0) part ≡ true
 unfolding each_covers

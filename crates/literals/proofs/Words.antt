@@ -1,11 +1,13 @@
 -- What the operations on words of 64 bits in the code give. Assumes nothing.
-use Rattle.std.proofs.Common.{◌≡◌, ℕ, ◌+◌, ◌-◌, ◌*◌, ◌/◌, ◌%◌, ◌^◌, ◌<◌, ◌≤◌, Bool, true, false, ◌||◌, eqb, sym, refl, ap, ◌∙◌, ⊎_elim, add-zero, arith, pow_pos, pow_mono}
+use Rattle.std.proofs.Common.{◌≡◌, ℕ, ◌+◌, ◌-◌, ◌*◌, ◌/◌, ◌%◌, ◌^◌, ◌<◌, ◌≤◌, Bool, true, false, not, ◌||◌, eqb, ltb, Some, None, sym, refl, ap, ◌∙◌, ⊎_elim, add-zero, arith, pow_pos, pow_mono}
 use lib.Bits.{bit_or, or_shifted}
 use lib.Count.{count_trailing_zeros}
 use Rattle.std.proofs.lemmas.Nat.{one_shl}
 use Rattle.std.proofs.lemmas.Bool.{cases_lt, or_parts, both_ways}
 use Rattle.std.proofs.lemmas.Bool.Decides.{nat_tests}
-use Rattle.literals.specs.Literals.{bit, place, has, of_first, first}
+use Rattle.std.specs.Bool.{then_some}
+use mir.Val.{bool_byte}
+use Rattle.literals.specs.Literals.{bit, place, has, of_first, first, lowest}
 use Rattle.literals.proofs.Digits.{digit_or, bit_shr, trailing_below, trailing_at}
 use Rattle.literals.proofs.Members.{has_at, first_is}
 
@@ -52,7 +54,7 @@ left_true true y h e = refl
 left_true false y h e = absurd (both_ways y e h)
 
 -- the lowest fluent of which either literal is a member
-abbrev lowest-fluent : ℕ → ℕ
+abbrev pub lowest-fluent : ℕ → ℕ
 lowest-fluent s = count_trailing_zeros 64 (either s)
 
 -- the first member is one of its literals
@@ -77,3 +79,29 @@ module _ (s : ℕ) where
       let member : bit s f ≡ true = left_true (bit s f) (bit s (32 + f)) (sym (either_digit s f) ∙ some) apart in
       first_is s (2 * f + 1) (omega arith) (λ _. has_odd s (2 * f + 1) (omega arith) (omega arith) ∙ rw next member)
       (λ m k. ⊎_elim (λ (e : m / 2 < f). none_lower m (omega arith) e) (λ (e : f ≤ m / 2). let same : m ≡ 2 * f = omega arith in rw same other) (cases_lt (m / 2) f))
+
+  -- the lowest member, from the lowest fluent
+  pub lowest_none : 32 ≤ lowest-fluent s → None ≡ lowest s
+  lowest_none h = rw (← first_none h) refl
+
+  pub lowest_even : lowest-fluent s < 32 → has s (2 * lowest-fluent s) ≡ true → Some (2 * lowest-fluent s) ≡ lowest s
+  lowest_even h member =
+      let small : ltb (2 * lowest-fluent s) 64 ≡ true = grind (arith, nat_tests) in
+      rw (← first_even h member, small) refl
+
+  pub lowest_odd : lowest-fluent s < 32 → has s (2 * lowest-fluent s) ≡ false → Some (2 * lowest-fluent s + 1) ≡ lowest s
+  lowest_odd h other =
+      let small : ltb (2 * lowest-fluent s + 1) 64 ≡ true = grind (arith, nat_tests) in
+      rw (← first_odd h other, small) refl
+
+-- the literal of the lowest fluent that is a member, where there is such a fluent
+pub then_lowest : (s : ℕ) (member : Bool) → has s (2 * lowest-fluent s) ≡ member → then_some (ltb (lowest-fluent s) 32) (2 * lowest-fluent s + bool_byte (not member)) ≡ lowest s
+then_lowest s member e =
+    ⊎_elim
+    (λ (h : lowest-fluent s < 32). let inside : ltb (lowest-fluent s) 32 ≡ true = grind (arith, nat_tests) in rw inside (either_lowest s member h e))
+    (λ (h : 32 ≤ lowest-fluent s). let outside : ltb (lowest-fluent s) 32 ≡ false = grind (arith, nat_tests) in rw outside (lowest_none s h))
+    (cases_lt (lowest-fluent s) 32)
+  where
+    either_lowest : (s : ℕ) (member : Bool) → lowest-fluent s < 32 → has s (2 * lowest-fluent s) ≡ member → Some (2 * lowest-fluent s + bool_byte (not member)) ≡ lowest s
+    either_lowest s true h e = let same : 2 * lowest-fluent s + 0 ≡ 2 * lowest-fluent s = omega arith in rw same (lowest_even s h e)
+    either_lowest s false h e = lowest_odd s h e

@@ -1,7 +1,7 @@
 // Sets of literals as words of 64 bits.
 ghost use Rattle.std.specs.Prelude.{◌≡◌, ◌≤◌};
 ghost use Rattle.literals.specs.Membership.{Membership};
-ghost use Rattle.literals.specs.Literals.{opposite, opposites, has, with, without, covers, lowest, all, place, at_place, single, rotated, of_first, first};
+ghost use Rattle.literals.specs.Literals.{opposite, opposites, has, with, without, covers, lowest, all, place, at_place, single, rotated, of_first};
 
 // Literal 2f + 1 says that fluent f is true, and 2f that it is false. Fluents are below 32, so literals are below 64.
 pub type Literal = u8;
@@ -52,12 +52,13 @@ pub fn covers(set: LiteralSet, part: LiteralSet) -> bool
     without(part, set) == 0
 }
 
-// The member with the lowest number.
+// The member with the lowest number. Its fluent is the lowest of which either literal is a member.
 pub fn lowest(set: LiteralSet) -> Option<Literal>
     ensures { result ≡ lowest set }
 {
-    let literal = first(set);
-    if literal < 64 { Some(literal) } else { None }
+    let fluent = (set | set >> 32).trailing_zeros() as u8;
+    let literal = 2 * fluent + u8::from(!contains(set, 2 * fluent));
+    (fluent < 32).then_some(literal)
 }
 
 // Every literal of the first fluents; there are no more than 32.
@@ -106,20 +107,4 @@ fn of_first(count: u8) -> LiteralSet
 {
     let low = (1 << count) - 1;
     low << 32 | low
-}
-
-// The member with the lowest number, or 64 where there is none. Its fluent is the lowest of which either literal is a member.
-fn first(set: LiteralSet) -> Literal
-    ensures { result ≡ first set }
-{
-    let fluent = (set | set >> 32).trailing_zeros() as u8;
-    if fluent >= 32 {
-        return 64;
-    }
-    let literal = 2 * fluent;
-    if contains(set, literal) {
-        literal
-    } else {
-        literal + 1
-    }
 }

@@ -2,9 +2,10 @@ ghost use Rattle.std.specs.Prelude.{◌≡◌, ◌≤◌, length, set, slice_ind
 ghost use Rattle.literals.specs.Tables.{AreSets, told, filled, empty, moments, full, each_covers, is_full, same, common};
 
 use crate::set::{Literal, LiteralSet, all, covers, with};
+use lists::slices::put;
 
 // A set of literals for each moment from 0 to 32.
-#[derive(Clone, Copy)]
+#[derive(Clone, Copy, PartialEq, Eq)]
 pub struct Table {
     sets: [u64; 33],
     ghost long: { length sets ≡ 33 },
@@ -30,14 +31,14 @@ impl Table {
     pub fn at(&self, moment: usize) -> LiteralSet
         ensures { result ≡ slice_index self.now.sets moment }
     {
-        item(&self.sets, moment)
+        self.sets.get(moment).copied().unwrap_or(0)
     }
 
     // Another set at a moment; past the table nothing changes.
     pub fn put(&mut self, moment: usize, literals: LiteralSet)
         ensures { self.new.sets ≡ slice_set self.old.sets moment literals }
     {
-        replace(&mut self.sets, moment, literals);
+        put(&mut self.sets, moment, literals);
     }
 
     // One literal more at a moment.
@@ -58,7 +59,7 @@ impl Table {
     pub fn same(&self, other: &Table) -> bool
         ensures { result ≡ same self.now.sets other.now.sets }
     {
-        equal(&self.sets, &other.sets)
+        self == other
     }
 
     // What both show.
@@ -76,33 +77,13 @@ impl Table {
     }
 }
 
-// The set at an index; past the end it is empty.
-fn item(sets: &[u64], index: usize) -> u64
-    ensures { result ≡ slice_index sets.now index }
-{
-    if index < sets.len() { sets[index] } else { 0 }
-}
-
-// Another set at an index; past the end nothing changes.
-fn replace(sets: &mut [u64], index: usize, literals: LiteralSet)
-    requires { AreSets sets.old }
-    ensures value { sets.new ≡ slice_set sets.old index literals }
-    ensures small { AreSets sets.new }
-{
-    if index < sets.len() {
-        sets[index] = literals;
-    }
-}
-
 // The same set at the first moments, and empty sets after them.
 fn filled(count: usize, literals: LiteralSet) -> Table
     requires { count ≤ 33 }
     ensures { result.sets ≡ filled count literals }
 {
     let mut sets = [0; 33];
-    for t in 0..count {
-        sets[t] = literals;
-    }
+    sets[..count].fill(literals);
     Table { sets }
 }
 
@@ -117,12 +98,7 @@ fn moments(last: usize) -> usize
 fn each_covers(sets: &[u64], part: LiteralSet) -> bool
     ensures { result ≡ each_covers sets.now part }
 {
-    for set in sets {
-        if !covers(*set, part) {
-            return false;
-        }
-    }
-    true
+    sets.iter().all(|set| covers(*set, part))
 }
 
 // What both show, moment by moment.
@@ -134,11 +110,4 @@ fn both(one: &Table, other: &Table) -> Table
         shared.put(moment, one.at(moment) & other.at(moment));
     }
     shared
-}
-
-// Whether the sets are the same, one by one.
-fn equal(sets: &[u64], others: &[u64]) -> bool
-    ensures { result ≡ same sets.now others.now }
-{
-    sets == others
 }

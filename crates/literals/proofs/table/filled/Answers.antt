@@ -1,18 +1,26 @@
-use Rattle.std.proofs.Common.{length, set, sym, refl, ap, ◌∙◌, subst, arith}
+use Rattle.std.proofs.Common.{◌≡◌, ℕ, List, ◌++◌, length, drop, replicate, sym, ap, ◌∙◌, subst}
+use Rattle.std.proofs.lemmas.List.{drop-replicate, length-take-le}
 use Rattle.literals.specs.Tables.{AreSets, filled}
-use Rattle.literals.proofs.Facts.{length-filled, filled_more, filled_sets}
+use Rattle.literals.proofs.Facts.{length-filled, filled_sets}
 use Rattle.literals.proofs.table.filled.Goals as goal
 
-pub loop-t-init : goal.loop-t-init
-unfolding filled
-loop-t-init c = refl
+abbrev zeros : List ℕ
+zeros = replicate 33 0
 
-pub loop-t-preserved : goal.loop-t-preserved
-loop-t-preserved c =
-    ap (λ sets. set sets c.loop-t.t c.args.literals) c.loop-t.invariant ∙ filled_more c.loop-t.t c.args.literals (omega arith)
+pub returns : goal.returns
+unfolding filled
+returns c =
+    let n = c.args.count in
+    let first : c.fill.new.self ≡ replicate n c.args.literals = c.fill.ensures.after (λ y e. e) ∙ ap (λ k. replicate k c.args.literals) (length-take-le n zeros c.requires) in
+    ap (λ xs. xs ++ drop n zeros) first ∙ ap (λ zs. replicate n c.args.literals ++ zs) (drop-replicate n 33 0)
 
 pub invariant_of-result : goal.invariant_of-result
-invariant_of-result c = record {
-  long = ap length c.loop-t.invariant ∙ length-filled c.loop-t.t c.args.literals (omega arith);
-  small = subst AreSets (sym c.loop-t.invariant) (filled_sets c.loop-t.t c.args.literals (omega arith));
-}
+unfolding filled
+invariant_of-result c =
+    let n = c.args.count in
+    let first : c.fill.new.self ≡ replicate n c.args.literals = c.fill.ensures.after (λ y e. e) ∙ ap (λ k. replicate k c.args.literals) (length-take-le n zeros c.requires) in
+    let all : c.fill.new.self ++ drop n zeros ≡ filled n c.args.literals = ap (λ xs. xs ++ drop n zeros) first ∙ ap (λ zs. replicate n c.args.literals ++ zs) (drop-replicate n 33 0) in
+    record {
+      long = ap length all ∙ length-filled n c.args.literals c.requires;
+      small = subst AreSets (sym all) (filled_sets n c.args.literals c.ranges.literals.fits);
+    }

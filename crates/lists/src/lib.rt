@@ -1,0 +1,5 @@
+// Lists that never allocate.
+#![tactic(auto)]
+
+pub mod fixed_list;
+pub mod slices;
