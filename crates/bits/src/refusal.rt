@@ -1,7 +1,6 @@
-ghost use Rattle.std.specs.Prelude.{◌≡◌, take};
 ghost use Rattle.bits.specs.Refusals.{number_of, values_of, short_number, short_values};
 
-use crate::report::{Report, Values};
+use crate::report::{Report, Reported, Values};
 
 // Why bytes cannot be read as a layout's fields.
 #[derive(Clone, Copy, Debug, PartialEq, Eq)]
@@ -12,11 +11,12 @@ pub enum Refusal {
     Trailing { place: u128 },
 }
 
-impl Refusal {
-    pub fn report(&self) -> Report
-        ensures number { result.number ≡ number_of self.now }
-        ensures values { take result.values.count result.values.items ≡ values_of self.now }
-    {
+impl Reported for Refusal {
+    ghost number = { number_of };
+
+    ghost values = { values_of };
+
+    fn report(&self) -> Report {
         let (number, place) = match self {
             Refusal::Ended { place } => (1, *place),
             Refusal::Trailing { place } => (7, *place),
@@ -34,11 +34,12 @@ pub struct TooShort {
     pub needed: u128,
 }
 
-impl TooShort {
-    pub fn report(&self) -> Report
-        ensures number { result.number ≡ short_number self.now }
-        ensures values { take result.values.count result.values.items ≡ short_values self.now }
-    {
+impl Reported for TooShort {
+    ghost number = { short_number };
+
+    ghost values = { short_values };
+
+    fn report(&self) -> Report {
         Report {
             number: 20,
             values: Values::one(self.needed),

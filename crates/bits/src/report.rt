@@ -1,49 +1,51 @@
-ghost use Rattle.std.specs.Prelude.{◌≡◌, ◌≤◌, [], ◌∷◌, length, take};
-
+use lists::fixed_list::FixedList;
 use std::fmt;
 use std::fmt::Formatter;
 
 // The values of a refusal: at most four numbers.
 #[derive(Clone, Copy)]
 pub struct Values {
-    items: [u128; 4],
-    count: usize,
-    ghost few: { count ≤ 4 },
-    ghost long: { length items ≡ 4 },
+    items: FixedList<u128, 4>,
 }
 
 impl Values {
+    ghost use Rattle.std.specs.Prelude.{◌≡◌, ◌<◌, [], ◌∷◌, ◌++◌, length};
+    ghost use Rattle.bits.specs.Reports.{values_in};
+
     pub fn none() -> Self
-        ensures { take result.count result.items ≡ [] }
+        ensures { values_in result ≡ [] }
     {
         Values {
-            items: [0, 0, 0, 0],
-            count: 0,
+            items: FixedList::empty(0),
         }
     }
 
     pub fn one(first: u128) -> Self
-        ensures { take result.count result.items ≡ first ∷ [] }
+        ensures { values_in result ≡ first ∷ [] }
     {
-        Values {
-            items: [first, 0, 0, 0],
-            count: 1,
-        }
+        Values::none().and(first)
     }
 
     pub fn two(first: u128, second: u128) -> Self
-        ensures { take result.count result.items ≡ first ∷ second ∷ [] }
+        ensures { values_in result ≡ first ∷ second ∷ [] }
     {
-        Values {
-            items: [first, second, 0, 0],
-            count: 2,
-        }
+        Values::one(first).and(second)
     }
 
     pub fn as_slice(&self) -> &[u128]
-        ensures { result.now ≡ take self.now.count self.now.items }
+        ensures { result.now ≡ values_in self.now }
     {
-        &self.items[0..self.count]
+        self.items.as_slice()
+    }
+
+    // One value more.
+    fn and(self, value: u128) -> Self
+        requires { length (values_in self) < 4 }
+        ensures { values_in result ≡ values_in self ++ value ∷ [] }
+    {
+        let mut items = self.items;
+        items.push(value);
+        Values { items }
     }
 }
 
@@ -64,4 +66,18 @@ impl fmt::Display for Report {
         }
         Ok(())
     }
+}
+
+// Why something is refused, as a number and values.
+pub trait Reported {
+    ghost use Rattle.std.specs.Prelude.{◌≡◌, ℕ, List};
+    ghost use Rattle.bits.specs.Reports.{values_in};
+
+    ghost number: { Self → ℕ };
+
+    ghost values: { Self → List ℕ };
+
+    fn report(&self) -> Report
+        ensures number { result.number ≡ number self.now }
+        ensures values { values_in result.values ≡ values self.now };
 }
