@@ -126,12 +126,12 @@ unfolding same
 same_decides = compares_Decides same (record { empty = refl; shorter = λ _ _. refl; longer = λ _ _. refl; heads = λ _ _ _ _. refl })
 
 -- the library's words for the same two tests
-pub pointwise-same : (xs ys : List ℕ) → pointwise nat_eq xs ys ≡ same xs ys
+pub same_from_pointwise : (xs ys : List ℕ) → pointwise nat_eq xs ys ≡ same xs ys
 unfolding same
-pointwise-same [] [] = refl
-pointwise-same [] (y ∷ ys) = refl
-pointwise-same (x ∷ xs) [] = refl
-pointwise-same (x ∷ xs) (y ∷ ys) = ap (λ b. eqb x y && b) (pointwise-same xs ys)
+same_from_pointwise [] [] = refl
+same_from_pointwise [] (y ∷ ys) = refl
+same_from_pointwise (x ∷ xs) [] = refl
+same_from_pointwise (x ∷ xs) (y ∷ ys) = ap (λ b. eqb x y && b) (same_from_pointwise xs ys)
 
 pub list_all-covers : (sets : List ℕ) (part : ℕ) → list_all (λ s. covers s part) sets ≡ each_covers sets part
 unfolding each_covers

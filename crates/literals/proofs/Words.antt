@@ -1,5 +1,5 @@
 -- What the operations on words of 64 bits in the code give. Assumes nothing.
-use Rattle.std.proofs.Common.{◌≡◌, ℕ, ◌+◌, ◌-◌, ◌*◌, ◌/◌, ◌%◌, ◌^◌, ◌<◌, ◌≤◌, Bool, true, false, not, ◌||◌, eqb, ltb, Some, None, sym, refl, ap, ◌∙◌, ⊎_elim, add-zero, arith, pow_pos, pow_mono}
+use Rattle.std.proofs.Common.{◌≡◌, ℕ, ◌+◌, ◌-◌, ◌*◌, ◌/◌, ◌%◌, ◌^◌, ◌<◌, ◌≤◌, Bool, true, false, not, ◌||◌, eqb, ltb, Some, None, Option, sym, refl, ap, ◌∙◌, ⊎_elim, add-zero, arith, pow_pos, pow_mono}
 use lib.Bits.{bit_or, or_shifted}
 use lib.Count.{count_trailing_zeros}
 use Rattle.std.proofs.lemmas.Nat.{one_shl}
@@ -95,10 +95,11 @@ module _ (s : ℕ) where
       rw (← first_odd h other, small) refl
 
 -- the literal of the lowest fluent that is a member, where there is such a fluent
-pub then_lowest : (s : ℕ) (member : Bool) → has s (2 * lowest-fluent s) ≡ member → then_some (ltb (lowest-fluent s) 32) (2 * lowest-fluent s + bool_byte (not member)) ≡ lowest s
-then_lowest s member e =
-    ⊎_elim
-    (λ (h : lowest-fluent s < 32). let inside : ltb (lowest-fluent s) 32 ≡ true = grind (arith, nat_tests) in rw inside (either_lowest s member h e))
+pub then_lowest : (s odd : ℕ) (member : Bool) (r : Option ℕ) → r ≡ then_some (ltb (lowest-fluent s) 32) (2 * lowest-fluent s + odd) → odd ≡ bool_byte (not member) → member ≡ has s (2 * lowest-fluent s) → r ≡ lowest s
+then_lowest s odd member r told digit e =
+    told
+    ∙ ⊎_elim
+    (λ (h : lowest-fluent s < 32). let inside : ltb (lowest-fluent s) 32 ≡ true = grind (arith, nat_tests) in rw (inside, digit) (either_lowest s member h (sym e)))
     (λ (h : 32 ≤ lowest-fluent s). let outside : ltb (lowest-fluent s) 32 ≡ false = grind (arith, nat_tests) in rw outside (lowest_none s h))
     (cases_lt (lowest-fluent s) 32)
   where

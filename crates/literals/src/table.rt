@@ -56,6 +56,7 @@ impl Table {
     }
 
     // Whether the other shows the same at each moment.
+    #[tactic(auto, using(crate::proofs::Facts::same_from_pointwise))]
     pub fn same(&self, other: &Table) -> bool
         ensures { result ≡ same self.now.sets other.now.sets }
     {

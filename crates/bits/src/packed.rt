@@ -1,0 +1,64 @@
+// Values that a layout packs into bits.
+ghost use Rattle.std.specs.Prelude.{◌≡◌, ℕ, ◌*◌, ◌≤◌, Bool, List, length, is_ok};
+ghost use Rattle.std.specs.List.{flat_map};
+ghost use Rattle.bits.specs.Fields.{Wrote};
+
+use crate::refusal::TooShort;
+use crate::writer::Writer;
+
+// What has its place in a layout.
+pub trait Packed {
+    ghost bits: { Self → List Bool };
+
+    // No value has more bits than that.
+    ghost most: { ℕ };
+
+    // How many bits it has.
+    fn packed_len(&self) -> usize
+        ensures value { result ≡ length (bits self.now) }
+        ensures few { result ≤ most };
+
+    // Its bits, after those that the writer has put.
+    fn put(&self, writer: &mut Writer) -> Result<(), TooShort>
+        ensures wrote { Wrote (is_ok result) (bits self.now) writer.old.place writer.old.bytes.now writer.new.place writer.new.bytes.now }
+        ensures name { writer.new.bytes.ghost_name ≡ writer.old.bytes.ghost_name };
+}
+
+// How many bits the items have.
+pub fn packed_len<T: Packed>(items: &[T]) -> u128
+    ensures value { result ≡ length (flat_map T.bits items.now) }
+    ensures few { result ≤ T.most * length items.now }
+{
+    total_len(items)
+}
+
+// The items in sequence.
+pub fn put_all<T: Packed>(writer: &mut Writer, items: &[T]) -> Result<(), TooShort>
+    ensures wrote { Wrote (is_ok result) (flat_map T.bits items.now) writer.old.place writer.old.bytes.now writer.new.place writer.new.bytes.now }
+    ensures name { writer.new.bytes.ghost_name ≡ writer.old.bytes.ghost_name }
+{
+    put_each(writer, items)
+}
+
+// The same, with its proof by hand.
+fn total_len<T: Packed>(items: &[T]) -> u128
+    ensures value { result ≡ length (flat_map T.bits items.now) }
+    ensures few { result ≤ T.most * length items.now }
+{
+    let mut bits = 0;
+    for item in items {
+        bits += item.packed_len() as u128;
+    }
+    bits
+}
+
+// The same, with its proof by hand.
+fn put_each<T: Packed>(writer: &mut Writer, items: &[T]) -> Result<(), TooShort>
+    ensures wrote { Wrote (is_ok result) (flat_map T.bits items.now) writer.old.place writer.old.bytes.now writer.new.place writer.new.bytes.now }
+    ensures name { writer.new.bytes.ghost_name ≡ writer.old.bytes.ghost_name }
+{
+    for item in items {
+        item.put(writer)?;
+    }
+    Ok(())
+}
