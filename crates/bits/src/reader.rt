@@ -84,11 +84,13 @@ impl<'a> Reader<'a> {
     fn fill_end(&self) -> u128
         ensures { result ≡ fill_end (bits_of self.now.bytes.now) self.now.place }
     {
-        let mut place = self.place;
-        while place % 8 != 0 && !self.bit(place) {
-            place += 1;
+        let end = self.place + (8 - self.place % 8) % 8;
+        for place in self.place..end {
+            if self.bit(place) {
+                return place;
+            }
         }
-        place
+        end
     }
 
     // Whether the bit at a place is 1; there is none past the end.
