@@ -77,7 +77,7 @@ pub plan_lawful : (p : Plan) → Lawful (plan_tree p)
 plan_lawful p =
     record {
       shallow = p.shallow;
-      few = rw p.whole (simp length-take (omega (arith, p.few)));
+      few = rw p.whole (simp length-take (omega (arith, p.nodes.few)));
       named = p.named;
     }
 

@@ -1,6 +1,6 @@
-ghost use Rattle.std.specs.Prelude.{◌≡◌, ◌+◌, ◌-◌, ◌≤◌, List, ◌++◌, length, drop};
+ghost use Rattle.std.specs.Prelude.{◌≡◌, ◌+◌, ◌≤◌, List, ◌++◌, length};
 ghost use Rattle.plan.specs.Plans.{plan_tree};
-ghost use Rattle.plan.specs.Tree.{Tree, nodes_of, size, depth, ends as tree_ends};
+ghost use Rattle.plan.specs.Tree.{Tree, nodes_of, depth, ends as tree_ends};
 ghost use Rattle.plan.specs.declared.node.Node.{Node as PlanNode};
 
 use crate::node::Node;
@@ -11,7 +11,7 @@ impl Plan {
     pub fn nodes(&self) -> &[Node]
         ensures { result.now ≡ nodes_of (plan_tree self.now) }
     {
-        &self.table[0..self.count]
+        self.nodes.as_slice()
     }
 
     // How many ends there are.
@@ -33,42 +33,38 @@ impl Plan {
 fn count_ends(nodes: &[Node]) -> usize
     ensures { (t : Tree) → nodes.now ≡ nodes_of t → result ≡ tree_ends t }
 {
-    let mut count = 0;
-    for node in nodes {
-        if let Node::End = node {
-            count += 1;
-        }
-    }
-    count
+    nodes
+        .iter()
+        .filter(|node| matches!(node, Node::End))
+        .count()
 }
 
 // The longest way of a whole plan.
 fn longest_of(nodes: &[Node]) -> usize
     ensures { (t : Tree) → nodes.now ≡ nodes_of t → result ≡ depth t }
 {
-    let (longest, _) = longest_at(nodes, 0);
+    let (longest, _) = longest_first(nodes);
     longest
 }
 
-// The longest way of the plan at an index, and the index after that plan.
-fn longest_at(nodes: &[Node], at: usize) -> (usize, usize)
-    ensures spelled { (t : Tree) (rest : List PlanNode) → drop at nodes.now ≡ nodes_of t ++ rest → (result.0 ≡ depth t) × (result.1 ≡ at + size t) }
-    ensures few { result.0 ≤ length nodes.now - at }
-    ensures onward { at ≤ result.1 }
+// The longest way of the plan that nodes begin with, and the nodes after that plan.
+fn longest_first(nodes: &[Node]) -> (usize, &[Node])
+    ensures spelled { (t : Tree) (rest : List PlanNode) → nodes.now ≡ nodes_of t ++ rest → (result.0 ≡ depth t) × (result.1.now ≡ rest) }
+    ensures few { result.0 + length result.1.now ≤ length nodes.now }
 {
-    if at >= nodes.len() {
-        return (0, at);
-    }
-    match nodes[at] {
-        Node::End => (0, at + 1),
+    let Some((first, rest)) = nodes.split_first() else {
+        return (0, nodes);
+    };
+    match first {
+        Node::End => (0, rest),
         Node::Order { .. } => {
-            let (longest, next) = longest_at(nodes, at + 1);
-            (longest + 1, next)
+            let (longest, after) = longest_first(rest);
+            (longest + 1, after)
         }
         Node::Look { .. } => {
-            let (yes, middle) = longest_at(nodes, at + 1);
-            let (no, next) = longest_at(nodes, middle);
-            (yes.max(no) + 1, next)
+            let (yes, middle) = longest_first(rest);
+            let (no, after) = longest_first(middle);
+            (yes.max(no) + 1, after)
         }
     }
 }

@@ -1,6 +1,7 @@
-ghost use Rattle.std.specs.Prelude.{◌≡◌, ◌+◌, ◌^◌, ◌<◌, [], ◌∷◌, ◌++◌, take, IfOk};
+ghost use Rattle.std.specs.Prelude.{◌≡◌, ◌^◌, ◌<◌, ◌∷◌, ◌++◌, [], length, IfOk};
 ghost use Rattle.bits.specs.Bits.{bits_of};
 ghost use Rattle.bits.specs.Fields.{next_place};
+ghost use Rattle.lists.specs.Lists.{items_of};
 ghost use Rattle.plan.specs.Layout.{plan_field, node_at, plan_at, read_plan};
 ghost use Rattle.plan.specs.Plans.{held, spelled};
 ghost use Rattle.plan.specs.Promises.{ReadsExactly};
@@ -20,18 +21,14 @@ impl Plan {
         ensures exact { ReadsExactly bytes.now }
     {
         let nodes = whole(bytes)?;
-        let table = nodes.table;
-        Ok(Plan {
-            table,
-            count: nodes.count,
-        })
+        Ok(Plan { nodes })
     }
 }
 
 // The nodes of a whole plan, which fill the bytes.
 fn whole(bytes: &[u8]) -> Result<Nodes, Refusal>
     ensures value { spelled result ≡ read_plan bytes.now }
-    ensures lawful { IfOk result (λ n. Whole (take n.count n.table)) }
+    ensures lawful { IfOk result (λ n. Whole (items_of n)) }
     ensures exact { ReadsExactly bytes.now }
 {
     let mut reader = Reader::new(bytes);
@@ -39,7 +36,7 @@ fn whole(bytes: &[u8]) -> Result<Nodes, Refusal>
     if edition != 1 {
         return Err(Refusal::Edition { place: 0 });
     }
-    let mut nodes = no_nodes();
+    let mut nodes = Nodes::empty(Node::End);
     subplan(&mut reader, &mut nodes, 32)?;
     reader.finish()?;
     Ok(nodes)
@@ -48,9 +45,9 @@ fn whole(bytes: &[u8]) -> Result<Nodes, Refusal>
 // The plan at the reader's place, at most `remaining` orders and looks deep; its nodes go after those before it.
 fn subplan(reader: &mut Reader, nodes: &mut Nodes, remaining: u8) -> Result<(), Refusal>
     ensures bytes { reader.new.bytes ≡ reader.old.bytes }
-    ensures added { Added (plan_at remaining (bits_of reader.old.bytes.now) nodes.old.count reader.old.place) result (take nodes.old.count nodes.old.table) (take nodes.new.count nodes.new.table) reader.new.place }
+    ensures added { Added (plan_at remaining (bits_of reader.old.bytes.now) (length (items_of nodes.old)) reader.old.place) result (items_of nodes.old) (items_of nodes.new) reader.new.place }
 {
-    let (first, _) = node(reader, nodes.count, remaining)?;
+    let (first, _) = node(reader, nodes.as_slice().len(), remaining)?;
     push(nodes, first);
     match first {
         Node::End => Ok(()),
@@ -62,24 +59,12 @@ fn subplan(reader: &mut Reader, nodes: &mut Nodes, remaining: u8) -> Result<(), 
     }
 }
 
-fn no_nodes() -> Nodes
-    ensures nodes { take result.count result.table ≡ [] }
-    ensures count { result.count ≡ 0 }
-{
-    Nodes {
-        table: [Node::End; 255],
-        count: 0,
-    }
-}
-
 // One node more.
 fn push(nodes: &mut Nodes, node: Node)
-    requires { nodes.old.count < 255 }
-    ensures nodes { take nodes.new.count nodes.new.table ≡ take nodes.old.count nodes.old.table ++ node ∷ [] }
-    ensures count { nodes.new.count ≡ nodes.old.count + 1 }
+    requires { length (items_of nodes.old) < 255 }
+    ensures { items_of nodes.new ≡ items_of nodes.old ++ node ∷ [] }
 {
-    nodes.table[nodes.count] = node;
-    nodes.count += 1;
+    nodes.push(node);
 }
 
 // The node at the reader's place, with `count` nodes before it and room for `remaining` orders and looks.
@@ -103,20 +88,11 @@ fn node(reader: &mut Reader, count: usize, remaining: u8) -> Result<(Node, u128)
         return Err(Refusal::TooLarge { place });
     }
     let (action, next) = field(reader, Width::FOUR)?;
+    let action = action as u8;
     if tag == 1 {
-        Ok((
-            Node::Order {
-                action: action as u8,
-            },
-            next,
-        ))
+        Ok((Node::Order { action }, next))
     } else {
-        Ok((
-            Node::Look {
-                action: action as u8,
-            },
-            next,
-        ))
+        Ok((Node::Look { action }, next))
     }
 }
 

@@ -1,25 +1,18 @@
-ghost use Rattle.std.specs.Prelude.{◌≡◌, ◌≤◌, true, length, take};
+ghost use Rattle.std.specs.Prelude.{◌≡◌, ◌≤◌, true};
+ghost use Rattle.lists.specs.Lists.{items_of};
 ghost use Rattle.plan.specs.Tree.{tree_of, nodes_of, depth, small_actions};
 
 use crate::node::Node;
+use lists::fixed_list::FixedList;
 
-// Nodes in sequence, while they are read: they need not be a whole plan.
-#[derive(Clone, Copy)]
-pub(crate) struct Nodes {
-    pub(crate) table: [Node; 255],
-    pub(crate) count: usize,
-    ghost few: { count ≤ 255 },
-    ghost long: { length table ≡ 255 },
-}
+// Nodes in sequence.
+pub(crate) type Nodes = FixedList<Node, 255>;
 
 // A whole plan: its nodes in sequence, at most 32 orders and looks deep on any way.
 #[derive(Clone, Copy)]
 pub struct Plan {
-    pub(crate) table: [Node; 255],
-    pub(crate) count: usize,
-    ghost few: { count ≤ 255 },
-    ghost long: { length table ≡ 255 },
-    ghost whole: { nodes_of (tree_of (take count table)) ≡ take count table },
-    ghost shallow: { depth (tree_of (take count table)) ≤ 32 },
-    ghost named: { small_actions (tree_of (take count table)) ≡ true },
+    pub(crate) nodes: Nodes,
+    ghost whole: { nodes_of (tree_of (items_of nodes)) ≡ items_of nodes },
+    ghost shallow: { depth (tree_of (items_of nodes)) ≤ 32 },
+    ghost named: { small_actions (tree_of (items_of nodes)) ≡ true },
 }

@@ -8,6 +8,7 @@ ghost use Rattle.plan.specs.Promises.{WrittenOnce};
 
 use crate::node::Node;
 use crate::record::Plan;
+use bits::packed::{Packed, packed_len, put_all};
 use bits::refusal::TooShort;
 use bits::width::Width;
 use bits::writer::Writer;
@@ -34,11 +35,7 @@ impl Plan {
         ensures value { result ≡ length (written (plan_tree self.now)) }
         ensures once { WrittenOnce (plan_tree self.now) }
     {
-        let mut bits = 4;
-        for node in self.nodes() {
-            bits += node_len(*node);
-        }
-        (bits + 7) / 8
+        ((4 + packed_len(self.nodes()) + 7) / 8) as usize
     }
 
     // The packed layout in a buffer that has room for it.
@@ -65,49 +62,40 @@ fn put_plan(writer: &mut Writer, nodes: &[Node]) -> Result<(), TooShort>
     ensures name { writer.new.bytes.ghost_name ≡ writer.old.bytes.ghost_name }
 {
     writer.put(1, Width::FOUR)?;
-    put_nodes(writer, nodes)
+    put_all(writer, nodes)
 }
 
-// How many bits a node has.
-fn node_len(node: Node) -> usize
-    ensures value { result ≡ length (node_bits node) }
-    ensures few { result ≤ 6 }
-{
-    match node {
-        Node::End => 2,
-        Node::Order { .. } => 6,
-        Node::Look { .. } => 6,
+impl Packed for Node {
+    ghost bits = { node_bits };
+
+    ghost most = { 6 };
+
+    fn packed_len(&self) -> usize {
+        match self {
+            Node::End => 2,
+            Node::Order { .. } => 6,
+            Node::Look { .. } => 6,
+        }
     }
-}
 
-// Nodes in sequence.
-fn put_nodes(writer: &mut Writer, nodes: &[Node]) -> Result<(), TooShort>
-    ensures wrote { Wrote (is_ok result) (flat_map node_bits nodes.now) writer.old.place writer.old.bytes.now writer.new.place writer.new.bytes.now }
-    ensures name { writer.new.bytes.ghost_name ≡ writer.old.bytes.ghost_name }
-{
-    for node in nodes {
-        put_node(writer, *node)?;
-    }
-    Ok(())
-}
-
-// One node more.
-fn put_node(writer: &mut Writer, node: Node) -> Result<u128, TooShort>
-    ensures wrote { Wrote (is_ok result) (node_bits node) writer.old.place writer.old.bytes.now writer.new.place writer.new.bytes.now }
-    ensures name { writer.new.bytes.ghost_name ≡ writer.old.bytes.ghost_name }
-{
-    match node {
-        Node::End => writer.put(0, Width::TWO),
-        Node::Order { action } => put_action(writer, 1, action),
-        Node::Look { action } => put_action(writer, 2, action),
+    fn put(&self, writer: &mut Writer) -> Result<(), TooShort> {
+        match self {
+            Node::End => {
+                writer.put(0, Width::TWO)?;
+                Ok(())
+            }
+            Node::Order { action } => put_action(writer, 1, *action),
+            Node::Look { action } => put_action(writer, 2, *action),
+        }
     }
 }
 
 // A tag and an action more.
-fn put_action(writer: &mut Writer, tag: u16, action: u8) -> Result<u128, TooShort>
+fn put_action(writer: &mut Writer, tag: u16, action: u8) -> Result<(), TooShort>
     ensures wrote { Wrote (is_ok result) (numeral 2 tag ++ numeral 4 action) writer.old.place writer.old.bytes.now writer.new.place writer.new.bytes.now }
     ensures name { writer.new.bytes.ghost_name ≡ writer.old.bytes.ghost_name }
 {
     writer.put(tag, Width::TWO)?;
-    writer.put(u16::from(action), Width::FOUR)
+    writer.put(u16::from(action), Width::FOUR)?;
+    Ok(())
 }

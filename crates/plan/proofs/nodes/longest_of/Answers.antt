@@ -3,4 +3,4 @@ use Rattle.plan.specs.Tree.{nodes_of}
 use Rattle.plan.proofs.nodes.longest_of.Goals as goal
 
 pub returns : goal.returns
-returns c t whole = (c.longest_at-longest.ensures.spelled t [] (whole ∙ sym (append-nil (nodes_of t)))).0
+returns c t whole = (c.longest_first-longest.ensures.spelled t [] (whole ∙ sym (append-nil (nodes_of t)))).0

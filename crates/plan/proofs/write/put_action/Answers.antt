@@ -12,9 +12,17 @@ returns-in_err-put c =
       name = c.put.ensures.name;
     })
 
+pub returns-in_err-put-2 : goal.returns-in_err-put-2
+returns-in_err-put-2 c =
+    let p = err_from_is_err_and c.from_residual-in_err-put-2.result c.from_residual-in_err-put-2.ensures.1 in
+    rw p.1 (record {
+      wrote = wrote_then c.in_ok-put.ensures.wrote (rw c.from.ensures at c.in_err-put-2.ensures.wrote);
+      name = c.put-2.ensures.name ∙ c.put.ensures.name;
+    })
+
 pub returns : goal.returns
 returns c =
     record {
-      wrote = wrote_then c.in_ok-put.ensures.wrote (rw c.from.ensures at c.put-2.ensures.wrote);
+      wrote = wrote_then c.in_ok-put.ensures.wrote (rw c.from.ensures at c.in_ok-put-2.ensures.wrote);
       name = c.put-2.ensures.name ∙ c.put.ensures.name;
     }

@@ -16,6 +16,6 @@ returns-in_err-put c =
 pub returns : goal.returns
 returns c =
     record {
-      filled = λ start. wrote_all start (wrote_then c.in_ok-put.ensures.wrote c.put_nodes.ensures.wrote);
-      name = c.put_nodes.ensures.name ∙ c.put.ensures.name;
+      filled = λ start. wrote_all start (wrote_then c.in_ok-put.ensures.wrote c.put_all.ensures.wrote);
+      name = c.put_all.ensures.name ∙ c.put.ensures.name;
     }
