@@ -4,6 +4,7 @@ use Rattle.bits.specs.Bits.{number, bytes_for, put, holding}
 use Rattle.bits.specs.declared.refusal.Refusal.{Refusal}
 use Rattle.bits.specs.declared.refusal.Refusal.TheVariants.{Ended, Trailing}
 use Rattle.bits.specs.declared.refusal.TooShort.{TooShort}
+use Rattle.bits.specs.declared.writer.Writer.{Writer}
 
 -- the number that w bits from a place on spell
 unfoldable pub number_at : List Bool → ℕ → ℕ → ℕ
@@ -51,10 +52,11 @@ ending bits p = cond (nat_lt (fill_end bits p) (length bits)) (Err (Trailing (fi
 abbrev pub written_field : ℕ → ℕ → ℕ → Result ℕ TooShort
 written_field len p w = cond (nat_le (p + w) (8 * len)) (Ok (p + w)) (Err (record { needed = bytes_for (p + w) }))
 
--- writing bits from the place p on leaves the writer at q; where there is room for them, the write is accepted, they are put, and q is the place after them
-pub record Wrote (accepted : Bool) (bits : List Bool) (p : ℕ) (bytes : List ℕ) (q : ℕ) (bytes' : List ℕ) : Type 0 where
-  pub long : length bytes' ≡ length bytes
-  pub put_there : p + length bits ≤ 8 * length bytes → (accepted ≡ true) × (q ≡ p + length bits) × (bytes' ≡ put p bits bytes)
+-- writing bits: the buffer stays the one that was lent, and as long; where there is room for the bits, the write is accepted, they are put, and the writer stands after them
+pub record Wrote (accepted : Bool) (bits : List Bool) (old new : Writer) : Type 0 where
+  pub name : new.bytes.ghost_name ≡ old.bytes.ghost_name
+  pub long : length new.bytes.now ≡ length old.bytes.now
+  pub put_there : old.place + length bits ≤ 8 * length old.bytes.now → (accepted ≡ true) × (new.place ≡ old.place + length bits) × (new.bytes.now ≡ put old.place bits old.bytes.now)
 
 -- writing bits from the start of a buffer; where there is room, the write is accepted and the buffer holds them
 pub record Filled (accepted : Bool) (bits : List Bool) (old new : List ℕ) : Type 0 where

@@ -20,8 +20,7 @@ pub trait Packed {
 
     // Its bits, after those that the writer has put.
     fn put(&self, writer: &mut Writer) -> Result<(), TooShort>
-        ensures wrote { Wrote (is_ok result) (bits self.now) writer.old.place writer.old.bytes.now writer.new.place writer.new.bytes.now }
-        ensures name { writer.new.bytes.ghost_name ≡ writer.old.bytes.ghost_name };
+        ensures { Wrote (is_ok result) (bits self.now) writer.old writer.new };
 }
 
 // How many bits the items have.
@@ -34,8 +33,7 @@ pub fn packed_len<T: Packed>(items: &[T]) -> u128
 
 // The items in sequence.
 pub fn put_all<T: Packed>(writer: &mut Writer, items: &[T]) -> Result<(), TooShort>
-    ensures wrote { Wrote (is_ok result) (flat_map T.bits items.now) writer.old.place writer.old.bytes.now writer.new.place writer.new.bytes.now }
-    ensures name { writer.new.bytes.ghost_name ≡ writer.old.bytes.ghost_name }
+    ensures { Wrote (is_ok result) (flat_map T.bits items.now) writer.old writer.new }
 {
     put_each(writer, items)
 }
@@ -54,8 +52,7 @@ fn total_len<T: Packed>(items: &[T]) -> u128
 
 // The same, with its proof by hand.
 fn put_each<T: Packed>(writer: &mut Writer, items: &[T]) -> Result<(), TooShort>
-    ensures wrote { Wrote (is_ok result) (flat_map T.bits items.now) writer.old.place writer.old.bytes.now writer.new.place writer.new.bytes.now }
-    ensures name { writer.new.bytes.ghost_name ≡ writer.old.bytes.ghost_name }
+    ensures { Wrote (is_ok result) (flat_map T.bits items.now) writer.old writer.new }
 {
     for item in items {
         item.put(writer)?;

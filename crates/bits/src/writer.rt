@@ -27,8 +27,7 @@ impl<'a> Writer<'a> {
         ensures value { result ≡ written_field (length self.old.bytes.now) self.old.place width.bits }
         ensures place { self.new.place ≡ (if is_ok result then self.old.place + width.bits else self.old.place) }
         ensures bytes { self.new.bytes.now ≡ (if is_ok result then put_bits self.old.place (numeral width.bits value) self.old.bytes.now else self.old.bytes.now) }
-        ensures wrote { Wrote (is_ok result) (numeral width.bits value) self.old.place self.old.bytes.now self.new.place self.new.bytes.now }
-        ensures name { self.new.bytes.ghost_name ≡ self.old.bytes.ghost_name }
+        ensures wrote { Wrote (is_ok result) (numeral width.bits value) self.old self.new }
     {
         self.put_field(value, width)
     }
@@ -38,8 +37,7 @@ impl<'a> Writer<'a> {
         ensures value { result ≡ written_field (length self.old.bytes.now) self.old.place width.bits }
         ensures place { self.new.place ≡ (if is_ok result then self.old.place + width.bits else self.old.place) }
         ensures bytes { self.new.bytes.now ≡ (if is_ok result then put_bits self.old.place (numeral width.bits value) self.old.bytes.now else self.old.bytes.now) }
-        ensures wrote { Wrote (is_ok result) (numeral width.bits value) self.old.place self.old.bytes.now self.new.place self.new.bytes.now }
-        ensures name { self.new.bytes.ghost_name ≡ self.old.bytes.ghost_name }
+        ensures wrote { Wrote (is_ok result) (numeral width.bits value) self.old self.new }
     {
         let place = self.place;
         let bits = u128::from(width.bits());

@@ -92,8 +92,7 @@ impl Packed for Node {
 
 // A tag and an action more.
 fn put_action(writer: &mut Writer, tag: u16, action: u8) -> Result<(), TooShort>
-    ensures wrote { Wrote (is_ok result) (numeral 2 tag ++ numeral 4 action) writer.old.place writer.old.bytes.now writer.new.place writer.new.bytes.now }
-    ensures name { writer.new.bytes.ghost_name ≡ writer.old.bytes.ghost_name }
+    ensures { Wrote (is_ok result) (numeral 2 tag ++ numeral 4 action) writer.old writer.new }
 {
     writer.put(tag, Width::TWO)?;
     writer.put(u16::from(action), Width::FOUR)?;

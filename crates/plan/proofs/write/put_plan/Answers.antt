@@ -10,12 +10,12 @@ returns-in_err-put c =
     let p = err_from_is_err_and c.from_residual.result c.from_residual.ensures.1 in
     rw p.1 (record {
       filled = λ start. wrote_all start (wrote_refused (flat_map node_bits c.args.nodes.now) c.in_err-put.ensures.wrote);
-      name = c.put.ensures.name;
+      name = c.put.ensures.wrote.name;
     })
 
 pub returns : goal.returns
 returns c =
     record {
-      filled = λ start. wrote_all start (wrote_then c.in_ok-put.ensures.wrote c.put_all.ensures.wrote);
-      name = c.put_all.ensures.name ∙ c.put.ensures.name;
+      filled = λ start. wrote_all start (wrote_then c.in_ok-put.ensures.wrote c.put_all.ensures);
+      name = c.put_all.ensures.name ∙ c.put.ensures.wrote.name;
     }
