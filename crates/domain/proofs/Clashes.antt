@@ -1,6 +1,7 @@
 -- One turn of each loop of the exclusion test. Assumes nothing.
 use Rattle.std.proofs.Common.{◌≡◌, ℕ, ◌+◌, ◌<◌, ◌≤◌, Bool, true, false, cond, not, ◌&&◌, ◌||◌, List, [], ◌∷◌, ◌++◌, length, get_or, take, drop, Some, None, Option, sym, refl, ap, ◌∙◌}
 use Rattle.std.proofs.lemmas.List.{take_more, drop_more, drop_all}
+use Rattle.std.specs.List.{list_any}
 use Rattle.domain.specs.Layout.{effect_bits, clash_place}
 use Rattle.domain.specs.Sheet.{clash, clashes, clash_free}
 use Rattle.domain.specs.declared.action.Effect.{Effect}
@@ -8,18 +9,10 @@ use Rattle.domain.specs.declared.action.Effect.{Effect}
 abbrev pub blank : Effect
 blank = record { conditions = 0; literal = 0 }
 
--- an effect against the earlier ones
-module _ (e : Effect) (earlier : List Effect) (i : ℕ) (so_far : clashes e (drop i earlier) ≡ clashes e earlier) where
-  pub clash_found : i < length earlier → true ≡ clash e (get_or earlier i blank) → true ≡ clashes e earlier
-  clash_found inside found =
-      ap (λ b. b || clashes e (drop (i + 1) earlier)) found ∙ ap (clashes e) (sym (drop_more earlier i blank inside)) ∙ so_far
-
-  pub clash-not_here : i < length earlier → false ≡ clash e (get_or earlier i blank) → clashes e (drop (i + 1) earlier) ≡ clashes e earlier
-  clash-not_here inside none =
-      ap (λ b. b || clashes e (drop (i + 1) earlier)) none ∙ ap (clashes e) (sym (drop_more earlier i blank inside)) ∙ so_far
-
-  pub clash_nowhere : length earlier ≤ i → false ≡ clashes e earlier
-  clash_nowhere all = ap (clashes e) (sym (drop_all i earlier all)) ∙ so_far
+-- an effect against the earlier ones, in the library's words
+pub list_any-clash : (e : Effect) (earlier : List Effect) → list_any (clash e) earlier ≡ clashes e earlier
+list_any-clash e [] = refl
+list_any-clash e (f ∷ fs) = ap (λ b. clash e f || b) (list_any-clash e fs)
 
 -- the first clash from an effect on, if any
 abbrev pub first_from : List Effect → ℕ → List Effect → Option ℕ

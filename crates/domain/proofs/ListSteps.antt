@@ -1,7 +1,7 @@
 -- Steps of the loops over literals: those that are read, and the members of a set. Assumes nothing.
-use Rattle.std.proofs.Common.{◌≡◌, ℕ, zero, suc, ◌+◌, ◌-◌, ◌*◌, ◌/◌, ◌<◌, ◌≤◌, Bool, true, false, List, [], ◌∷◌, ◌++◌, length, Ok, Err, sym, refl, ap, ◌∙◌, ⊎_elim, append_assoc, append-nil, arith, length-append}
+use Rattle.std.proofs.Common.{◌≡◌, ℕ, zero, suc, ◌+◌, ◌-◌, ◌*◌, ◌/◌, ◌<◌, ◌≤◌, Bool, true, false, cond, List, [], ◌∷◌, ◌++◌, length, filter, Ok, Err, sym, refl, ap, ◌∙◌, ⊎_elim, append_assoc, append-nil, arith, length-append}
 use Rattle.std.proofs.lemmas.Bool.{cases_Bool}
-use Rattle.std.specs.List.{flat_map}
+use Rattle.std.specs.List.{flat_map, range_with_len}
 use Rattle.bits.specs.Bits.{numeral}
 use Rattle.bits.specs.Fields.{followed}
 use Rattle.bits.proofs.Laws.{length-numeral, joined-append}
@@ -71,16 +71,13 @@ pub member_none : (s k : ℕ) → has s k ≡ false → members_from s 1 k ≡ [
 unfolding members_from
 member_none s k gone = rw gone
 
--- the members among the literals up to one, and the count of them
-pub count_more : (s i : ℕ) → has s i ≡ true → length (members_from s (i + 1) 0) ≡ length (members_from s i 0) + 1
-count_more s i there =
-    ap length (members_parts s i 1 (i + 1) 0 i refl (omega arith))
-    ∙ length-append (members_from s i 0) (members_from s 1 i) ∙ ap (λ ls. length (members_from s i 0) + length ls) (member_one s i there)
-
-pub count_same : (s i : ℕ) → has s i ≡ false → length (members_from s (i + 1) 0) ≡ length (members_from s i 0)
-count_same s i gone =
-    ap length (members_parts s i 1 (i + 1) 0 i refl (omega arith))
-    ∙ length-append (members_from s i 0) (members_from s 1 i) ∙ ap (λ ls. length (members_from s i 0) + length ls) (member_none s i gone) ∙ omega arith
+-- the members among some literals are those that a filter keeps
+pub filter-has : (s n k : ℕ) → filter (has s) (range_with_len k n) ≡ members_from s n k
+unfolding members_from
+filter-has s zero k = refl
+filter-has s (suc n) k =
+    let next : k + 1 ≡ suc k = omega arith in
+    ap (λ ls. cond (has s k) (k ∷ ls) ls) (ap (λ m. filter (has s) (range_with_len m n)) next ∙ filter-has s n (suc k))
 
 -- ---- members as bits
 

@@ -1,5 +1,4 @@
-ghost use Rattle.std.specs.Prelude.{◌≡◌, ◌≤◌, length};
-
+use lists::fixed_list::FixedList;
 use literals::set::{Literal, LiteralSet};
 
 // An effect of a working action: where all its conditions are true, its literal is true at the next moment.
@@ -9,19 +8,10 @@ pub struct Effect {
     pub literal: Literal,
 }
 
-// The effects of a working action, in sequence.
-#[derive(Clone, Copy)]
-pub(crate) struct Effects {
-    pub(crate) rows: [Effect; 8],
-    pub(crate) count: usize,
-    ghost few: { count ≤ 8 },
-    ghost long: { length rows ≡ 8 },
-}
-
-// What an action does: it works by its effects, or it senses a fluent.
+// What an action does: it works by its effects, in sequence, or it senses a fluent.
 #[derive(Clone, Copy)]
 pub(crate) enum Kind {
-    Working { effects: Effects },
+    Working { effects: FixedList<Effect, 8> },
     Sensing { fluent: u8 },
 }
 
@@ -32,20 +22,13 @@ pub(crate) struct Row {
     pub(crate) kind: Kind,
 }
 
-// The actions, in sequence.
+// The parts of a sheet, its groups and its actions in sequence: they need not be lawful.
 #[derive(Clone, Copy)]
-pub(crate) struct Rows {
-    pub(crate) rows: [Row; 16],
-    pub(crate) count: usize,
-    ghost few: { count ≤ 16 },
-    ghost long: { length rows ≡ 16 },
-}
-
-// The one-of groups, in sequence.
-#[derive(Clone, Copy)]
-pub(crate) struct Groups {
-    pub(crate) sets: [u64; 8],
-    pub(crate) count: usize,
-    ghost few: { count ≤ 8 },
-    ghost long: { length sets ≡ 8 },
+pub(crate) struct Parts {
+    pub(crate) fluents: u8,
+    pub(crate) initial: LiteralSet,
+    pub(crate) groups: FixedList<LiteralSet, 8>,
+    pub(crate) rows: FixedList<Row, 16>,
+    pub(crate) strong: LiteralSet,
+    pub(crate) weak: LiteralSet,
 }

@@ -23,21 +23,49 @@ pub(crate) fn field(reader: &mut Reader, width: Width) -> Result<(u16, u128), Re
     Ok(read)
 }
 
-// A count from the least to the most, and the place of the bit after it.
-pub(crate) fn count(
-    reader: &mut Reader,
-    width: Width,
-    least: u8,
-    most: u8,
-) -> Result<(u8, u128), Refusal>
-    ensures value { result ≡ count_at (bits_of reader.old.bytes.now) width.bits least most reader.old.place }
-    ensures few { IfOk result (λ v. v.0 ≤ most) }
+// A field for a count: its width, and what the count may be.
+#[derive(Clone, Copy)]
+pub(crate) struct Range {
+    pub(crate) width: Width,
+    pub(crate) least: u8,
+    pub(crate) most: u8,
+}
+
+pub(crate) const INITIAL: Range = Range {
+    width: Width::SIX,
+    least: 0,
+    most: 32,
+};
+
+pub(crate) const GROUP: Range = Range {
+    width: Width::FOUR,
+    least: 2,
+    most: 8,
+};
+
+// The count of needs, of goals, of groups and of effects.
+pub(crate) const UP_TO_EIGHT: Range = Range {
+    width: Width::FOUR,
+    least: 0,
+    most: 8,
+};
+
+pub(crate) const CONDITIONS: Range = Range {
+    width: Width::THREE,
+    least: 0,
+    most: 7,
+};
+
+// A count in its range, and the place of the bit after it.
+pub(crate) fn count(reader: &mut Reader, range: Range) -> Result<(u8, u128), Refusal>
+    ensures value { result ≡ count_at (bits_of reader.old.bytes.now) range.width.bits range.least range.most reader.old.place }
+    ensures few { IfOk result (λ v. v.0 ≤ range.most) }
     ensures bytes { reader.new.bytes ≡ reader.old.bytes }
     ensures place { IfOk result (λ v. reader.new.place ≡ v.1) }
 {
     let place = reader.place();
-    let (count, next) = field(reader, width)?;
-    if count < u16::from(least) || count > u16::from(most) {
+    let (count, next) = field(reader, range.width)?;
+    if count < u16::from(range.least) || count > u16::from(range.most) {
         return Err(Refusal::Count { place });
     }
     Ok((count as u8, next))
@@ -67,19 +95,17 @@ pub(crate) fn literal(
     Ok((literal, next))
 }
 
-// A list: a count from the least to the most, and as many literals whose fluents rise strictly.
+// A list: a count in its range, and as many literals whose fluents rise strictly.
 pub(crate) fn list(
     reader: &mut Reader,
     fluents: u8,
-    width: Width,
-    least: u8,
-    most: u8,
+    range: Range,
 ) -> Result<(LiteralSet, u128), Refusal>
-    ensures value { result ≡ list_at (bits_of reader.old.bytes.now) fluents width.bits least most reader.old.place }
+    ensures value { result ≡ list_at (bits_of reader.old.bytes.now) fluents range.width.bits range.least range.most reader.old.place }
     ensures bytes { reader.new.bytes ≡ reader.old.bytes }
     ensures place { IfOk result (λ v. reader.new.place ≡ v.1) }
 {
-    let (count, _) = count(reader, width, least, most)?;
+    let (count, _) = count(reader, range)?;
     literals(reader, fluents, count)
 }
 
@@ -101,8 +127,7 @@ fn literals(reader: &mut Reader, fluents: u8, count: u8) -> Result<(LiteralSet, 
 
 // A set as a list: the count of its members, and its members in rising sequence.
 pub(crate) fn put_list(writer: &mut Writer, width: Width, set: LiteralSet) -> Result<(), TooShort>
-    ensures wrote { Wrote (is_ok result) (list_bits width.bits set) writer.old.place writer.old.bytes.now writer.new.place writer.new.bytes.now }
-    ensures name { writer.new.bytes.ghost_name ≡ writer.old.bytes.ghost_name }
+    ensures { Wrote (is_ok result) (list_bits width.bits set) writer.old writer.new }
 {
     writer.put(u16::from(members(set)), width)?;
     put_members(writer, set)
@@ -121,19 +146,12 @@ pub(crate) fn members(set: LiteralSet) -> u8
     ensures value { result ≡ length (members set) }
     ensures few { result ≤ 64 }
 {
-    let mut count = 0;
-    for literal in 0..64 {
-        if contains(set, literal) {
-            count += 1;
-        }
-    }
-    count
+    (0..64).filter(|literal| contains(set, *literal)).count() as u8
 }
 
 // The members of a set in rising sequence.
 fn put_members(writer: &mut Writer, set: LiteralSet) -> Result<(), TooShort>
-    ensures wrote { Wrote (is_ok result) (flat_map (numeral 6) (members set)) writer.old.place writer.old.bytes.now writer.new.place writer.new.bytes.now }
-    ensures name { writer.new.bytes.ghost_name ≡ writer.old.bytes.ghost_name }
+    ensures { Wrote (is_ok result) (flat_map (numeral 6) (members set)) writer.old writer.new }
 {
     for literal in 0..64 {
         put_member(writer, set, literal)?;
@@ -143,8 +161,7 @@ fn put_members(writer: &mut Writer, set: LiteralSet) -> Result<(), TooShort>
 
 // A literal, if it is a member of the set.
 fn put_member(writer: &mut Writer, set: LiteralSet, literal: Literal) -> Result<(), TooShort>
-    ensures wrote { Wrote (is_ok result) (flat_map (numeral 6) (members_from set 1 literal)) writer.old.place writer.old.bytes.now writer.new.place writer.new.bytes.now }
-    ensures name { writer.new.bytes.ghost_name ≡ writer.old.bytes.ghost_name }
+    ensures { Wrote (is_ok result) (flat_map (numeral 6) (members_from set 1 literal)) writer.old writer.new }
 {
     if contains(set, literal) {
         writer.put(u16::from(literal), Width::SIX)?;

@@ -1,19 +1,21 @@
 // Domain sheets, read field by field.
-ghost use Rattle.std.specs.Prelude.{◌≡◌, ◌+◌, ◌<◌, ◌≤◌, true, [], ◌∷◌, ◌++◌, IfOk};
+ghost use Rattle.std.specs.Prelude.{◌≡◌, ◌≤◌, true, IfOk};
 ghost use Rattle.bits.specs.Bits.{bits_of};
-ghost use Rattle.domain.specs.Domains.{held, parts_sheet, spelled};
+ghost use Rattle.lists.specs.Lists.{items_of};
+ghost use Rattle.domain.specs.Domains.{held, spelled};
 ghost use Rattle.domain.specs.Layout.{row_at, action_at, actions_at, groups_at, all_groups_at, goals_at, facts_at, sheet_at, read_domain};
 ghost use Rattle.domain.specs.Promises.{ReadsExactly};
 ghost use Rattle.domain.specs.Sheet.{lawful as is_lawful};
-ghost use Rattle.domain.specs.Rows.{action_in, actions_in, groups_in, holds};
+ghost use Rattle.domain.specs.Rows.{action_in, actions_in, holds, parts_sheet};
 
-use crate::action::{Groups, Kind, Row, Rows};
-use crate::list::{count, field, list};
-use crate::record::{Domain, Parts};
+use crate::action::{Kind, Parts, Row};
+use crate::list::{GROUP, INITIAL, UP_TO_EIGHT, count, field, list};
+use crate::record::Domain;
 use crate::refusal::Refusal;
 use crate::rows::deed;
 use bits::reader::Reader;
 use bits::width::Width;
+use lists::fixed_list::FixedList;
 use literals::set::LiteralSet;
 
 impl Domain {
@@ -22,22 +24,8 @@ impl Domain {
         ensures value { held result ≡ read_domain bytes.now }
         ensures exact { ReadsExactly bytes.now }
     {
-        let Parts {
-            fluents,
-            initial,
-            groups,
-            rows,
-            strong,
-            weak,
-        } = whole(bytes)?;
-        Ok(Domain {
-            fluents,
-            initial,
-            groups,
-            rows,
-            strong,
-            weak,
-        })
+        let parts = whole(bytes)?;
+        Ok(Domain { parts })
     }
 }
 
@@ -75,7 +63,7 @@ fn facts(reader: &mut Reader, fluents: u8, actions: u8) -> Result<(Parts, u128),
     ensures bytes { reader.new.bytes ≡ reader.old.bytes }
     ensures place { IfOk result (λ v. reader.new.place ≡ v.1) }
 {
-    let (initial, _) = list(reader, fluents, Width::SIX, 0, 32)?;
+    let (initial, _) = list(reader, fluents, INITIAL)?;
     let (groups, _) = all_groups(reader, fluents)?;
     let (rows, _) = rows(reader, fluents, actions)?;
     let ((strong, weak), next) = goals(reader, fluents)?;
@@ -91,90 +79,51 @@ fn facts(reader: &mut Reader, fluents: u8, actions: u8) -> Result<(Parts, u128),
 }
 
 // So many groups.
-fn groups(reader: &mut Reader, fluents: u8, count: u8) -> Result<(Groups, u128), Refusal>
+fn groups(
+    reader: &mut Reader,
+    fluents: u8,
+    count: u8,
+) -> Result<(FixedList<LiteralSet, 8>, u128), Refusal>
     requires { count ≤ 8 }
-    ensures value { holds groups_in result ≡ groups_at count (bits_of reader.old.bytes.now) fluents reader.old.place }
+    ensures value { holds items_of result ≡ groups_at count (bits_of reader.old.bytes.now) fluents reader.old.place }
     ensures bytes { reader.new.bytes ≡ reader.old.bytes }
     ensures place { IfOk result (λ v. reader.new.place ≡ v.1) }
 {
-    let mut groups = Groups::none();
+    let mut groups = FixedList::empty(0);
     for _i in 0..count {
-        let (next, _) = list(reader, fluents, Width::FOUR, 2, 8)?;
+        let (next, _) = list(reader, fluents, GROUP)?;
         groups.push(next);
     }
     Ok((groups, reader.place()))
 }
 
-impl Groups {
-    fn none() -> Self
-        ensures sets { groups_in result ≡ [] }
-        ensures count { result.count ≡ 0 }
-    {
-        Groups {
-            sets: [0; 8],
-            count: 0,
-        }
-    }
-
-    // One group more.
-    fn push(&mut self, group: LiteralSet)
-        requires { self.old.count < 8 }
-        ensures sets { groups_in self.new ≡ groups_in self.old ++ group ∷ [] }
-        ensures count { self.new.count ≡ self.old.count + 1 }
-    {
-        self.sets[self.count] = group;
-        self.count += 1;
-    }
-}
-
 // A count of groups and the groups.
-fn all_groups(reader: &mut Reader, fluents: u8) -> Result<(Groups, u128), Refusal>
-    ensures value { holds groups_in result ≡ all_groups_at (bits_of reader.old.bytes.now) fluents reader.old.place }
+fn all_groups(reader: &mut Reader, fluents: u8) -> Result<(FixedList<LiteralSet, 8>, u128), Refusal>
+    ensures value { holds items_of result ≡ all_groups_at (bits_of reader.old.bytes.now) fluents reader.old.place }
     ensures bytes { reader.new.bytes ≡ reader.old.bytes }
     ensures place { IfOk result (λ v. reader.new.place ≡ v.1) }
 {
-    let (count, _) = count(reader, Width::FOUR, 0, 8)?;
+    let (count, _) = count(reader, UP_TO_EIGHT)?;
     groups(reader, fluents, count)
 }
 
 // So many actions.
-fn rows(reader: &mut Reader, fluents: u8, count: u8) -> Result<(Rows, u128), Refusal>
+fn rows(reader: &mut Reader, fluents: u8, count: u8) -> Result<(FixedList<Row, 16>, u128), Refusal>
     requires { count ≤ 16 }
     ensures value { holds actions_in result ≡ actions_at count (bits_of reader.old.bytes.now) fluents 0 reader.old.place }
     ensures bytes { reader.new.bytes ≡ reader.old.bytes }
     ensures place { IfOk result (λ v. reader.new.place ≡ v.1) }
 {
-    let mut rows = Rows::none();
+    let nothing = Row {
+        needs: 0,
+        kind: Kind::Sensing { fluent: 0 },
+    };
+    let mut rows = FixedList::empty(nothing);
     for action in 0..count {
         let (next, _) = row(reader, fluents, action)?;
         rows.push(next);
     }
     Ok((rows, reader.place()))
-}
-
-impl Rows {
-    fn none() -> Self
-        ensures rows { actions_in result ≡ [] }
-        ensures count { result.count ≡ 0 }
-    {
-        Rows {
-            rows: [Row {
-                needs: 0,
-                kind: Kind::Sensing { fluent: 0 },
-            }; 16],
-            count: 0,
-        }
-    }
-
-    // One action more.
-    fn push(&mut self, row: Row)
-        requires { self.old.count < 16 }
-        ensures rows { actions_in self.new ≡ actions_in self.old ++ action_in row ∷ [] }
-        ensures count { self.new.count ≡ self.old.count + 1 }
-    {
-        self.rows[self.count] = row;
-        self.count += 1;
-    }
 }
 
 // An action.
@@ -198,7 +147,7 @@ fn row_of_kind(
     ensures bytes { reader.new.bytes ≡ reader.old.bytes }
     ensures place { IfOk result (λ v. reader.new.place ≡ v.1) }
 {
-    let (needs, _) = list(reader, fluents, Width::FOUR, 0, 8)?;
+    let (needs, _) = list(reader, fluents, UP_TO_EIGHT)?;
     let (kind, next) = deed(reader, fluents, action, kind)?;
     Ok((Row { needs, kind }, next))
 }
@@ -209,7 +158,7 @@ fn goals(reader: &mut Reader, fluents: u8) -> Result<((LiteralSet, LiteralSet), 
     ensures bytes { reader.new.bytes ≡ reader.old.bytes }
     ensures place { IfOk result (λ v. reader.new.place ≡ v.1) }
 {
-    let (strong, _) = list(reader, fluents, Width::FOUR, 0, 8)?;
-    let (weak, next) = list(reader, fluents, Width::FOUR, 0, 8)?;
+    let (strong, _) = list(reader, fluents, UP_TO_EIGHT)?;
+    let (weak, next) = list(reader, fluents, UP_TO_EIGHT)?;
     Ok(((strong, weak), next))
 }

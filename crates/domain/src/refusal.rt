@@ -1,8 +1,8 @@
-ghost use Rattle.std.specs.Prelude.{◌≡◌, take};
+ghost use Rattle.std.specs.Prelude.{◌≡◌};
 ghost use Rattle.domain.specs.Refusals.{number_of, values_of};
 ghost use Rattle.domain.specs.declared.refusal.Refusal.TheVariants.{Unread};
 
-use bits::report::{Report, Values};
+use bits::report::{Report, Reported, Values};
 
 // Why bytes are no domain sheet.
 #[derive(Clone, Copy, Debug)]
@@ -29,11 +29,12 @@ impl From<bits::refusal::Refusal> for Refusal {
     }
 }
 
-impl Refusal {
-    pub fn report(&self) -> Report
-        ensures number { result.number ≡ number_of self.now }
-        ensures values { take result.values.count result.values.items ≡ values_of self.now }
-    {
+impl Reported for Refusal {
+    ghost number = { number_of };
+
+    ghost values = { values_of };
+
+    fn report(&self) -> Report {
         let (number, place) = match self {
             Refusal::Unread(refusal) => return refusal.report(),
             Refusal::Edition { place } => (2, *place),

@@ -1,42 +1,19 @@
 // Effects and actions, read field by field.
-ghost use Rattle.std.specs.Prelude.{◌≡◌, ◌+◌, ◌^◌, ◌<◌, ◌≤◌, [], ◌∷◌, ◌++◌, length, IfOk, if◌then◌else◌, Some, None};
+ghost use Rattle.std.specs.Prelude.{◌≡◌, ◌+◌, ◌^◌, ◌<◌, ◌≤◌, [], length, IfOk, if◌then◌else◌, Some, None};
 ghost use Rattle.bits.specs.Bits.{bits_of};
 ghost use Rattle.domain.specs.Layout.{effect_at, effects_at, counted_at, working_at, sensing_at, deed_at, clash_place};
-ghost use Rattle.domain.specs.Rows.{effects_in, deed_in, holds};
+ghost use Rattle.lists.specs.Lists.{items_of};
+ghost use Rattle.domain.specs.Rows.{deed_in, holds};
 ghost use Rattle.domain.specs.Sheet.{clash, clashes, clash_free};
 
-use crate::action::{Effect, Effects, Kind};
-use crate::list::{count, field, list, literal};
+use crate::action::{Effect, Kind};
+use crate::list::{CONDITIONS, UP_TO_EIGHT, count, field, list, literal};
 use crate::refusal::Refusal;
-use crate::write::effect_len;
+use bits::packed::Packed;
 use bits::reader::Reader;
 use bits::width::Width;
+use lists::fixed_list::FixedList;
 use literals::set::{opposite, opposites};
-
-impl Effects {
-    fn none() -> Self
-        ensures rows { effects_in result ≡ [] }
-        ensures count { result.count ≡ 0 }
-    {
-        Effects {
-            rows: [Effect {
-                conditions: 0,
-                literal: 0,
-            }; 8],
-            count: 0,
-        }
-    }
-
-    // One effect more.
-    fn push(&mut self, effect: Effect)
-        requires { self.old.count < 8 }
-        ensures rows { effects_in self.new ≡ effects_in self.old ++ effect ∷ [] }
-        ensures count { self.new.count ≡ self.old.count + 1 }
-    {
-        self.rows[self.count] = effect;
-        self.count += 1;
-    }
-}
 
 // What the action does, once its kind is known: 1 for sensing.
 pub(crate) fn deed(
@@ -72,14 +49,18 @@ fn sensing(reader: &mut Reader, fluents: u8) -> Result<(u8, u128), Refusal>
 }
 
 // The effects of an action, none of which clashes with an earlier one.
-fn working(reader: &mut Reader, fluents: u8, action: u8) -> Result<(Effects, u128), Refusal>
-    ensures value { holds effects_in result ≡ working_at (bits_of reader.old.bytes.now) fluents action reader.old.place }
+fn working(
+    reader: &mut Reader,
+    fluents: u8,
+    action: u8,
+) -> Result<(FixedList<Effect, 8>, u128), Refusal>
+    ensures value { holds items_of result ≡ working_at (bits_of reader.old.bytes.now) fluents action reader.old.place }
     ensures bytes { reader.new.bytes ≡ reader.old.bytes }
     ensures place { IfOk result (λ v. reader.new.place ≡ v.1) }
 {
     let start = reader.place();
     let (effects, next) = counted(reader, fluents)?;
-    match first_clash(effects.items(), start) {
+    match first_clash(effects.as_slice(), start) {
         Some(place) => Err(Refusal::NotExclusive { action, place }),
         None => Ok((effects, next)),
     }
@@ -96,7 +77,7 @@ fn first_clash(effects: &[Effect], count_place: u128) -> Option<u128>
         if clashes(effect, &effects[0..i]) {
             return Some(place);
         }
-        place += effect_len(*effect) as u128;
+        place += effect.packed_len() as u128;
     }
     None
 }
@@ -105,12 +86,7 @@ fn first_clash(effects: &[Effect], count_place: u128) -> Option<u128>
 fn clashes(effect: &Effect, earlier: &[Effect]) -> bool
     ensures { result ≡ clashes effect.now earlier.now }
 {
-    for other in earlier {
-        if clash(effect, other) {
-            return true;
-        }
-    }
-    false
+    earlier.iter().any(|other| clash(effect, other))
 }
 
 // Whether the literals of two effects are opposites, and no condition of one is the opposite of a condition of the other.
@@ -121,23 +97,31 @@ fn clash(one: &Effect, other: &Effect) -> bool
 }
 
 // A count of effects and the effects.
-fn counted(reader: &mut Reader, fluents: u8) -> Result<(Effects, u128), Refusal>
-    ensures value { holds effects_in result ≡ counted_at (bits_of reader.old.bytes.now) fluents reader.old.place }
+fn counted(reader: &mut Reader, fluents: u8) -> Result<(FixedList<Effect, 8>, u128), Refusal>
+    ensures value { holds items_of result ≡ counted_at (bits_of reader.old.bytes.now) fluents reader.old.place }
     ensures bytes { reader.new.bytes ≡ reader.old.bytes }
     ensures place { IfOk result (λ v. reader.new.place ≡ v.1) }
 {
-    let (count, _) = count(reader, Width::FOUR, 0, 8)?;
+    let (count, _) = count(reader, UP_TO_EIGHT)?;
     effects(reader, fluents, count)
 }
 
 // So many effects whose literals rise strictly.
-fn effects(reader: &mut Reader, fluents: u8, count: u8) -> Result<(Effects, u128), Refusal>
+fn effects(
+    reader: &mut Reader,
+    fluents: u8,
+    count: u8,
+) -> Result<(FixedList<Effect, 8>, u128), Refusal>
     requires { count ≤ 8 }
-    ensures value { holds effects_in result ≡ effects_at count (bits_of reader.old.bytes.now) fluents 0 reader.old.place }
+    ensures value { holds items_of result ≡ effects_at count (bits_of reader.old.bytes.now) fluents 0 reader.old.place }
     ensures bytes { reader.new.bytes ≡ reader.old.bytes }
     ensures place { IfOk result (λ v. reader.new.place ≡ v.1) }
 {
-    let mut effects = Effects::none();
+    let nothing = Effect {
+        conditions: 0,
+        literal: 0,
+    };
+    let mut effects = FixedList::empty(nothing);
     let mut least = 0;
     for _i in 0..count {
         let (next, _) = effect(reader, fluents, least)?;
@@ -154,7 +138,7 @@ fn effect(reader: &mut Reader, fluents: u8, least: u8) -> Result<(Effect, u128),
     ensures bytes { reader.new.bytes ≡ reader.old.bytes }
     ensures place { IfOk result (λ v. reader.new.place ≡ v.1) }
 {
-    let (conditions, _) = list(reader, fluents, Width::THREE, 0, 7)?;
+    let (conditions, _) = list(reader, fluents, CONDITIONS)?;
     let (literal, next) = literal(reader, fluents, least)?;
     Ok((
         Effect {

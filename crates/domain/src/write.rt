@@ -1,10 +1,10 @@
 // Domain sheets, written.
-ghost use Rattle.std.specs.Prelude.{◌≡◌, ◌≤◌, true, ◌++◌, map, length, drop, is_ok, if◌then◌else◌};
+ghost use Rattle.std.specs.Prelude.{◌≡◌, ◌≤◌, true, ◌++◌, length, drop, is_ok, if◌then◌else◌};
 ghost use Rattle.std.specs.List.{flat_map};
 ghost use Rattle.bits.specs.Bits.{numeral};
 ghost use Rattle.bits.specs.Fields.{Wrote, Filled};
 ghost use Rattle.domain.specs.Domains.{sheet};
-ghost use Rattle.domain.specs.Layout.{effect_bits, deed_bits, action_bits, domain_bits, written, written_to};
+ghost use Rattle.domain.specs.Layout.{effect_bits, kind_of, deed_bits, action_bits, domain_bits, written, written_to};
 ghost use Rattle.domain.specs.Lists.{list_bits};
 ghost use Rattle.domain.specs.Promises.{WrittenOnce};
 ghost use Rattle.domain.specs.Rows.{action_in, deed_in};
@@ -12,6 +12,7 @@ ghost use Rattle.domain.specs.Rows.{action_in, deed_in};
 use crate::action::{Effect, Kind, Row};
 use crate::list::{list_len, put_list};
 use crate::record::Domain;
+use bits::packed::{Packed, packed_len, put_all};
 use bits::refusal::TooShort;
 use bits::width::Width;
 use bits::writer::Writer;
@@ -39,11 +40,11 @@ impl Domain {
         ensures value { result ≡ length (written (sheet self.now)) }
         ensures once { WrittenOnce (sheet self.now) }
     {
-        let lists = list_len(Width::SIX, self.initial)
-            + list_len(Width::FOUR, self.strong)
-            + list_len(Width::FOUR, self.weak);
-        let tables = groups_len(self.groups.items()) + rows_len(self.rows.items());
-        (17 + lists + tables + 7) / 8
+        let lists = list_len(Width::SIX, self.parts.initial)
+            + list_len(Width::FOUR, self.parts.strong)
+            + list_len(Width::FOUR, self.parts.weak)
+            + lists_len(self.groups());
+        ((17 + lists as u128 + packed_len(self.rows()) + 7) / 8) as usize
     }
 
     // The packed layout in a buffer that has room for it.
@@ -57,7 +58,7 @@ impl Domain {
 }
 
 // How many bits groups have.
-fn groups_len(groups: &[LiteralSet]) -> usize
+fn lists_len(groups: &[LiteralSet]) -> usize
     requires { length groups.now ≤ 8 }
     ensures value { result ≡ length (flat_map (list_bits 4) groups.now) }
     ensures few { result ≤ 3200 }
@@ -65,59 +66,6 @@ fn groups_len(groups: &[LiteralSet]) -> usize
     let mut bits = 0;
     for group in groups {
         bits += list_len(Width::FOUR, *group);
-    }
-    bits
-}
-
-// How many bits an effect has.
-pub(crate) fn effect_len(effect: Effect) -> usize
-    ensures value { result ≡ length (effect_bits effect) }
-    ensures few { result ≤ 406 }
-{
-    list_len(Width::THREE, effect.conditions) + 6
-}
-
-// How many bits effects have.
-fn effects_len(effects: &[Effect]) -> usize
-    requires { length effects.now ≤ 8 }
-    ensures value { result ≡ length (flat_map effect_bits effects.now) }
-    ensures few { result ≤ 3248 }
-{
-    let mut bits = 0;
-    for effect in effects {
-        bits += effect_len(*effect);
-    }
-    bits
-}
-
-// How many bits there are of what an action does.
-fn kind_len(kind: &Kind) -> usize
-    ensures value { result ≡ length (deed_bits (deed_in kind.now)) }
-    ensures few { result ≤ 3252 }
-{
-    match kind {
-        Kind::Working { effects } => 4 + effects_len(effects.items()),
-        Kind::Sensing { .. } => 5,
-    }
-}
-
-// How many bits an action has.
-fn row_len(row: &Row) -> usize
-    ensures value { result ≡ length (action_bits (action_in row.now)) }
-    ensures few { result ≤ 3653 }
-{
-    1 + list_len(Width::FOUR, row.needs) + kind_len(&row.kind)
-}
-
-// How many bits actions have.
-fn rows_len(rows: &[Row]) -> usize
-    requires { length rows.now ≤ 16 }
-    ensures value { result ≡ length (flat_map action_bits (map action_in rows.now)) }
-    ensures few { result ≤ 58448 }
-{
-    let mut bits = 0;
-    for row in rows {
-        bits += row_len(row);
     }
     bits
 }
@@ -143,21 +91,19 @@ fn put_domain(writer: &mut Writer, domain: &Domain) -> Result<(), TooShort>
 
 // The initial literals, the groups, the actions and the goals.
 fn put_facts(writer: &mut Writer, domain: &Domain) -> Result<(), TooShort>
-    ensures wrote { Wrote (is_ok result) (list_bits 6 (sheet domain.now).initial ++ ((numeral 4 (length (sheet domain.now).groups) ++ flat_map (list_bits 4) (sheet domain.now).groups) ++ (flat_map action_bits (sheet domain.now).actions ++ (list_bits 4 (sheet domain.now).strong ++ list_bits 4 (sheet domain.now).weak)))) writer.old.place writer.old.bytes.now writer.new.place writer.new.bytes.now }
-    ensures name { writer.new.bytes.ghost_name ≡ writer.old.bytes.ghost_name }
+    ensures { Wrote (is_ok result) (list_bits 6 (sheet domain.now).initial ++ ((numeral 4 (length (sheet domain.now).groups) ++ flat_map (list_bits 4) (sheet domain.now).groups) ++ (flat_map action_bits (sheet domain.now).actions ++ (list_bits 4 (sheet domain.now).strong ++ list_bits 4 (sheet domain.now).weak)))) writer.old writer.new }
 {
-    put_list(writer, Width::SIX, domain.initial)?;
-    put_groups(writer, domain.groups.items())?;
-    put_rows(writer, domain.rows.items())?;
-    put_list(writer, Width::FOUR, domain.strong)?;
-    put_list(writer, Width::FOUR, domain.weak)
+    put_list(writer, Width::SIX, domain.parts.initial)?;
+    put_groups(writer, domain.groups())?;
+    put_all(writer, domain.rows())?;
+    put_list(writer, Width::FOUR, domain.parts.strong)?;
+    put_list(writer, Width::FOUR, domain.parts.weak)
 }
 
 // A count of groups, and the groups.
 fn put_groups(writer: &mut Writer, groups: &[LiteralSet]) -> Result<(), TooShort>
     requires { length groups.now ≤ 8 }
-    ensures wrote { Wrote (is_ok result) (numeral 4 (length groups.now) ++ flat_map (list_bits 4) groups.now) writer.old.place writer.old.bytes.now writer.new.place writer.new.bytes.now }
-    ensures name { writer.new.bytes.ghost_name ≡ writer.old.bytes.ghost_name }
+    ensures { Wrote (is_ok result) (numeral 4 (length groups.now) ++ flat_map (list_bits 4) groups.now) writer.old writer.new }
 {
     writer.put(groups.len() as u16, Width::FOUR)?;
     put_lists(writer, groups)
@@ -165,8 +111,7 @@ fn put_groups(writer: &mut Writer, groups: &[LiteralSet]) -> Result<(), TooShort
 
 // Groups in sequence.
 fn put_lists(writer: &mut Writer, groups: &[LiteralSet]) -> Result<(), TooShort>
-    ensures wrote { Wrote (is_ok result) (flat_map (list_bits 4) groups.now) writer.old.place writer.old.bytes.now writer.new.place writer.new.bytes.now }
-    ensures name { writer.new.bytes.ghost_name ≡ writer.old.bytes.ghost_name }
+    ensures { Wrote (is_ok result) (flat_map (list_bits 4) groups.now) writer.old writer.new }
 {
     for group in groups {
         put_list(writer, Width::FOUR, *group)?;
@@ -174,67 +119,79 @@ fn put_lists(writer: &mut Writer, groups: &[LiteralSet]) -> Result<(), TooShort>
     Ok(())
 }
 
-// Actions in sequence.
-fn put_rows(writer: &mut Writer, rows: &[Row]) -> Result<(), TooShort>
-    ensures wrote { Wrote (is_ok result) (flat_map action_bits (map action_in rows.now)) writer.old.place writer.old.bytes.now writer.new.place writer.new.bytes.now }
-    ensures name { writer.new.bytes.ghost_name ≡ writer.old.bytes.ghost_name }
-{
-    for row in rows {
-        put_row(writer, row)?;
-    }
-    Ok(())
-}
+impl Packed for Row {
+    ghost bits = { λ row. action_bits (action_in row) };
 
-// One action more.
-fn put_row(writer: &mut Writer, row: &Row) -> Result<(), TooShort>
-    ensures wrote { Wrote (is_ok result) (action_bits (action_in row.now)) writer.old.place writer.old.bytes.now writer.new.place writer.new.bytes.now }
-    ensures name { writer.new.bytes.ghost_name ≡ writer.old.bytes.ghost_name }
-{
-    match &row.kind {
-        Kind::Working { effects } => put_working(writer, row.needs, effects.items()),
-        Kind::Sensing { fluent } => put_sensing(writer, row.needs, *fluent),
+    ghost most = { 3653 };
+
+    fn packed_len(&self) -> usize {
+        1 + list_len(Width::FOUR, self.needs) + self.kind.packed_len()
+    }
+
+    fn put(&self, writer: &mut Writer) -> Result<(), TooShort> {
+        writer.put(self.kind.bit(), Width::ONE)?;
+        put_list(writer, Width::FOUR, self.needs)?;
+        self.kind.put(writer)
     }
 }
 
-// A sensing action more.
-fn put_sensing(writer: &mut Writer, needs: LiteralSet, fluent: u8) -> Result<(), TooShort>
-    ensures wrote { Wrote (is_ok result) (numeral 1 1 ++ (list_bits 4 needs ++ numeral 5 fluent)) writer.old.place writer.old.bytes.now writer.new.place writer.new.bytes.now }
-    ensures name { writer.new.bytes.ghost_name ≡ writer.old.bytes.ghost_name }
-{
-    writer.put(1, Width::ONE)?;
-    put_list(writer, Width::FOUR, needs)?;
-    writer.put(u16::from(fluent), Width::FIVE)?;
-    Ok(())
+impl Kind {
+    // The bit by which the layout says of an action what it does.
+    fn bit(&self) -> u16
+        ensures { result ≡ kind_of (deed_in self.now) }
+    {
+        match self {
+            Kind::Working { .. } => 0,
+            Kind::Sensing { .. } => 1,
+        }
+    }
 }
 
-// A working action more.
-fn put_working(writer: &mut Writer, needs: LiteralSet, effects: &[Effect]) -> Result<(), TooShort>
-    requires { length effects.now ≤ 8 }
-    ensures wrote { Wrote (is_ok result) (numeral 1 0 ++ (list_bits 4 needs ++ (numeral 4 (length effects.now) ++ flat_map effect_bits effects.now))) writer.old.place writer.old.bytes.now writer.new.place writer.new.bytes.now }
-    ensures name { writer.new.bytes.ghost_name ≡ writer.old.bytes.ghost_name }
-{
-    writer.put(0, Width::ONE)?;
-    put_list(writer, Width::FOUR, needs)?;
-    writer.put(effects.len() as u16, Width::FOUR)?;
-    put_effects(writer, effects)
+// A count of effects and the effects, or the sensed fluent.
+impl Packed for Kind {
+    ghost bits = { λ kind. deed_bits (deed_in kind) };
+
+    ghost most = { 3252 };
+
+    fn packed_len(&self) -> usize {
+        match self {
+            Kind::Working { effects } => 4 + packed_len(effects.as_slice()) as usize,
+            Kind::Sensing { .. } => 5,
+        }
+    }
+
+    fn put(&self, writer: &mut Writer) -> Result<(), TooShort> {
+        match self {
+            Kind::Working { effects } => put_effects(writer, effects.as_slice()),
+            Kind::Sensing { fluent } => {
+                writer.put(u16::from(*fluent), Width::FIVE)?;
+                Ok(())
+            }
+        }
+    }
 }
 
-// Effects in sequence.
+// A count of effects, and the effects.
 fn put_effects(writer: &mut Writer, effects: &[Effect]) -> Result<(), TooShort>
-    ensures wrote { Wrote (is_ok result) (flat_map effect_bits effects.now) writer.old.place writer.old.bytes.now writer.new.place writer.new.bytes.now }
-    ensures name { writer.new.bytes.ghost_name ≡ writer.old.bytes.ghost_name }
+    requires { length effects.now ≤ 8 }
+    ensures { Wrote (is_ok result) (numeral 4 (length effects.now) ++ flat_map effect_bits effects.now) writer.old writer.new }
 {
-    for effect in effects {
-        put_effect(writer, *effect)?;
-    }
-    Ok(())
+    writer.put(effects.len() as u16, Width::FOUR)?;
+    put_all(writer, effects)
 }
 
-// One effect more.
-fn put_effect(writer: &mut Writer, effect: Effect) -> Result<u128, TooShort>
-    ensures wrote { Wrote (is_ok result) (effect_bits effect) writer.old.place writer.old.bytes.now writer.new.place writer.new.bytes.now }
-    ensures name { writer.new.bytes.ghost_name ≡ writer.old.bytes.ghost_name }
-{
-    put_list(writer, Width::THREE, effect.conditions)?;
-    writer.put(u16::from(effect.literal), Width::SIX)
+impl Packed for Effect {
+    ghost bits = { effect_bits };
+
+    ghost most = { 406 };
+
+    fn packed_len(&self) -> usize {
+        list_len(Width::THREE, self.conditions) + 6
+    }
+
+    fn put(&self, writer: &mut Writer) -> Result<(), TooShort> {
+        put_list(writer, Width::THREE, self.conditions)?;
+        writer.put(u16::from(self.literal), Width::SIX)?;
+        Ok(())
+    }
 }

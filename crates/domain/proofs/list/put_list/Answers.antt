@@ -11,16 +11,10 @@ unfolding list_bits
 returns-in_err-put c =
     let p = err_from_is_err_and c.from_residual.result c.from_residual.ensures.1 in
     let count : numeral c.args.width.bits c.from.result ≡ numeral c.args.width.bits (length (members c.args.set)) = ap (numeral c.args.width.bits) (c.from.ensures ∙ c.members.ensures.value) in
-    rw p.1 (record {
-      wrote = wrote_refused (flat_map (numeral 6) (members c.args.set)) (wrote_as count c.in_err-put.ensures.wrote);
-      name = c.put.ensures.name;
-    })
+    rw p.1 (wrote_refused (flat_map (numeral 6) (members c.args.set)) (wrote_as count c.in_err-put.ensures.wrote))
 
 pub returns : goal.returns
 unfolding list_bits
 returns c =
     let count : numeral c.args.width.bits c.from.result ≡ numeral c.args.width.bits (length (members c.args.set)) = ap (numeral c.args.width.bits) (c.from.ensures ∙ c.members.ensures.value) in
-    record {
-      wrote = wrote_then (wrote_as count c.in_ok-put.ensures.wrote) c.put_members.ensures.wrote;
-      name = c.put_members.ensures.name ∙ c.put.ensures.name;
-    }
+    wrote_then (wrote_as count c.in_ok-put.ensures.wrote) c.put_members.ensures

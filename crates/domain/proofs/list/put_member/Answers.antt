@@ -1,4 +1,3 @@
-use Rattle.std.proofs.Common.{refl}
 use Rattle.std.proofs.lemmas.Result.{err_from_is_err_and}
 use Rattle.bits.proofs.Laws.{wrote_none, wrote_as}
 use Rattle.domain.proofs.ListSteps.{member_bits, no_bits}
@@ -7,18 +6,11 @@ use Rattle.domain.proofs.list.put_member.Goals as goal
 pub returns-in_err-put : goal.returns-in_err-put
 returns-in_err-put c =
     let p = err_from_is_err_and c.from_residual.result c.from_residual.ensures.1 in
-    rw p.1 (record {
-      wrote = wrote_as (member_bits c.args.set c.args.literal c.from.result c.if-contains.ensures.value c.from.ensures) c.in_err-put.ensures.wrote;
-      name = c.put.ensures.name;
-    })
+    rw p.1 (wrote_as (member_bits c.args.set c.args.literal c.from.result c.if-contains.ensures.value c.from.ensures) c.in_err-put.ensures.wrote)
 
 pub returns-in_ok-put : goal.returns-in_ok-put
 returns-in_ok-put c =
-    record {
-      wrote = wrote_as (member_bits c.args.set c.args.literal c.from.result c.if-contains.ensures.value c.from.ensures) c.in_ok-put.ensures.wrote;
-      name = c.put.ensures.name;
-    }
+    wrote_as (member_bits c.args.set c.args.literal c.from.result c.if-contains.ensures.value c.from.ensures) c.in_ok-put.ensures.wrote
 
 pub returns-else-contains : goal.returns-else-contains
-returns-else-contains c =
-    record { wrote = wrote_as (no_bits c.args.set c.args.literal c.if-contains.ensures.value) (wrote_none _ _); name = refl }
+returns-else-contains c = wrote_as (no_bits c.args.set c.args.literal c.if-contains.ensures.value) (wrote_none _)

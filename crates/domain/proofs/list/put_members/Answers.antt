@@ -1,4 +1,4 @@
-use Rattle.std.proofs.Common.{◌≡◌, ◌+◌, ◌-◌, refl, ap, ◌∙◌, arith}
+use Rattle.std.proofs.Common.{◌≡◌, ◌+◌, ◌-◌, ap, arith}
 use Rattle.std.proofs.lemmas.Result.{err_from_is_err_and}
 use Rattle.std.specs.List.{flat_map}
 use Rattle.bits.specs.Bits.{numeral}
@@ -9,27 +9,22 @@ use Rattle.domain.proofs.list.put_members.Goals as goal
 
 pub loop-literal-init : goal.loop-literal-init
 unfolding members_from
-loop-literal-init c = (refl, wrote_none _ _)
+loop-literal-init c = wrote_none _
 
 pub returns-in_err-put_member : goal.returns-in_err-put_member
 returns-in_err-put_member c =
     let p = err_from_is_err_and c.from_residual.result c.from_residual.ensures.1 in
     let set = c.args.set in
     let i = c.loop-literal.literal in
-    let stopped = wrote_then c.loop-literal.invariant.1 (wrote_refused (flat_map (numeral 6) (members_from set (63 - i) (i + 1))) c.in_err-put_member.ensures.wrote) in
-    rw p.1 (record {
-      wrote = wrote_as (bits_parts set i c.loop-literal-test.true) stopped;
-      name = c.put_member.ensures.name ∙ c.loop-literal.invariant.0;
-    })
+    let stopped = wrote_then c.loop-literal.invariant (wrote_refused (flat_map (numeral 6) (members_from set (63 - i) (i + 1))) c.in_err-put_member.ensures) in
+    rw p.1 (wrote_as (bits_parts set i c.loop-literal-test.true) stopped)
 
 pub loop-literal-preserved : goal.loop-literal-preserved
-loop-literal-preserved c = (
-  c.put_member.ensures.name ∙ c.loop-literal.invariant.0,
-  wrote_as (bits_more c.args.set c.loop-literal.literal) (wrote_then c.loop-literal.invariant.1 c.in_ok-put_member.ensures.wrote),
-)
+loop-literal-preserved c =
+    wrote_as (bits_more c.args.set c.loop-literal.literal) (wrote_then c.loop-literal.invariant c.in_ok-put_member.ensures)
 
 pub returns : goal.returns
 unfolding members
 returns c =
     let all : c.loop-literal.literal ≡ 64 = omega arith in
-    record { wrote = wrote_as (ap (λ n. flat_map (numeral 6) (members_from c.args.set n 0)) all) c.loop-literal.invariant.1; name = c.loop-literal.invariant.0 }
+    wrote_as (ap (λ n. flat_map (numeral 6) (members_from c.args.set n 0)) all) c.loop-literal.invariant

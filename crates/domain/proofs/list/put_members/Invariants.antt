@@ -1,4 +1,4 @@
-use Rattle.std.proofs.Common.{◌≡◌, true}
+use Rattle.std.proofs.Common.{true}
 use Rattle.std.specs.List.{flat_map}
 use Rattle.bits.specs.Bits.{numeral}
 use Rattle.bits.specs.Fields.{Wrote}
@@ -6,6 +6,4 @@ use Rattle.domain.specs.Lists.{members_from}
 use Rattle.domain.proofs.list.put_members.Given as goal
 
 abbrev pub invariant-loop-literal : goal.invariant-loop-literal
-invariant-loop-literal l =
-    (l.writer.bytes.ghost_name ≡ l.initial.writer.bytes.ghost_name)
-    × Wrote true (flat_map (numeral 6) (members_from l.set l.literal 0)) l.initial.writer.place l.initial.writer.bytes.now l.writer.place l.writer.bytes.now
+invariant-loop-literal l = Wrote true (flat_map (numeral 6) (members_from l.set l.literal 0)) l.initial.writer l.writer

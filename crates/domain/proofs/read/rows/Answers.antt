@@ -1,6 +1,9 @@
-use Rattle.std.proofs.Common.{◌+◌, sym, ap, ◌∙◌}
+use Rattle.std.proofs.Common.{[], ◌∷◌, map, sym, ap, ◌∙◌, arith}
+use Rattle.std.proofs.lemmas.List.{map-append}
 use Rattle.std.proofs.lemmas.Result.{err_from_is_err_and}
 use Rattle.bits.specs.Bits.{bits_of}
+use Rattle.lists.specs.Lists.{items_of}
+use Rattle.lists.proofs.Laws.{pushed, pushed_long}
 use Rattle.domain.specs.Layout.{action_at}
 use Rattle.domain.specs.Rows.{action_in, holds}
 use Rattle.domain.proofs.Items.{action_items, items_more, items_stop, items_done, read_here}
@@ -20,7 +23,10 @@ pub loop-action-preserved : goal.loop-action-preserved
 loop-action-preserved c =
     let read = read_here (λ bits. action_at bits c.args.fluents c.loop-action.action c.loop-action.reader.place) c.row.ensures.value c.loop-action.invariant.1 ∙ ap (holds action_in) c.in_ok-next.was in
     let more = items_more (action_items (bits_of c.args.reader.now.bytes.now) c.args.fluents) c.args.count c.loop-action.action _ _ _ _ c.loop-action.invariant.2 _ _ c.loop-action-test.true read in
-    (c.push.ensures.count ∙ ap (λ k. k + 1) c.loop-action.invariant.0, c.row.ensures.bytes ∙ c.loop-action.invariant.1, rw (c.push.ensures.rows, c.in_ok-next.ensures.place) more)
+    let rows = items_of c.loop-action.rows in
+    let grew = pushed rows 16 c.in_ok-next.next c.push.ensures.room c.push.ensures.items (omega (arith, c.loop-action.invariant.0, c.loop-action-test.true, c.requires)) in
+    let actions = ap (map action_in) grew ∙ map-append action_in rows (c.in_ok-next.next ∷ []) in
+    (pushed_long _ c.in_ok-next.next c.loop-action.action grew c.loop-action.invariant.0, c.row.ensures.bytes ∙ c.loop-action.invariant.1, rw (actions, c.in_ok-next.ensures.place) more)
 
 pub returns : goal.returns
 returns c =

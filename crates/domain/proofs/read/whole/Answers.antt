@@ -3,10 +3,9 @@ use Rattle.std.proofs.lemmas.Result.{err_from_is_err_and}
 use Rattle.bits.specs.Bits.{bits_of}
 use Rattle.bits.specs.Fields.{ending}
 use Rattle.bits.specs.declared.refusal.Refusal as bits
-use Rattle.domain.specs.Domains.{parts_sheet}
 use Rattle.domain.specs.Layout.{sheet_at}
 use Rattle.domain.specs.Lists.{domain_field}
-use Rattle.domain.specs.Rows.{holds}
+use Rattle.domain.specs.Rows.{holds, parts_sheet}
 use Rattle.domain.specs.Sheet.{Sheet}
 use Rattle.domain.specs.declared.refusal.Refusal.{Refusal}
 use Rattle.domain.proofs.Exact.{reads_exactly, read_lawful}

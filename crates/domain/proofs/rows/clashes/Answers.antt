@@ -1,14 +1,11 @@
-use Rattle.domain.proofs.Clashes.{clash_found, clash-not_here, clash_nowhere}
+use Rattle.std.proofs.Common.{◌∙◌, rules, tests}
+use Rattle.std.proofs.lemmas.Iterator.{YieldsList-from_slice}
+use Rattle.std.proofs.lemmas.Iterator.Search.{any_from_yields_List}
+use Rattle.domain.specs.Sheet.{clash}
+use Rattle.domain.proofs.Clashes.{list_any-clash}
 use Rattle.domain.proofs.rows.clashes.Goals as goal
-
-pub returns-then-clash : goal.returns-then-clash
-returns-then-clash c =
-    clash_found c.args.effect.now c.args.earlier.now c.loop-other.other-index c.loop-other.invariant c.loop-other-test.true c.if-clash.ensures
-
-pub loop-other-preserved : goal.loop-other-preserved
-loop-other-preserved c =
-    clash-not_here c.args.effect.now c.args.earlier.now c.loop-other.other-index c.loop-other.invariant c.loop-other-test.true c.if-clash.ensures
 
 pub returns : goal.returns
 returns c =
-    clash_nowhere c.args.effect.now c.args.earlier.now c.loop-other.other-index c.loop-other.invariant c.loop-other-test.false
+    any_from_yields_List (clash c.args.effect.now) _ _ _ c.any.ensures.ran (YieldsList-from_slice c.args.earlier.now (cc)) (λ x b q k. search (rules, tests))
+    ∙ list_any-clash c.args.effect.now c.args.earlier.now

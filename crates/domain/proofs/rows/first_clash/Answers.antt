@@ -12,7 +12,7 @@ pub loop-i-preserved : goal.loop-i-preserved
 loop-i-preserved c =
     let front : c.loop-i.i - 0 ≡ c.loop-i.i = omega arith in
     let none = c.if-clashes.ensures in
-    (omega (arith, c.effect_len.ensures.few), first_later c.args.effects.now c.loop-i.i c.loop-i.place _ c.loop-i.invariant.1 c.effect_len.result c.loop-i-test.true (rw front at none) c.effect_len.ensures.value)
+    (omega (arith, c.packed_len.ensures.few), first_later c.args.effects.now c.loop-i.i c.loop-i.place _ c.loop-i.invariant.1 c.packed_len.result c.loop-i-test.true (rw front at none) c.packed_len.ensures.value)
 
 pub returns : goal.returns
 returns c =

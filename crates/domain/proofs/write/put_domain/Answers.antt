@@ -4,7 +4,6 @@ use Rattle.bits.specs.Bits.{numeral}
 use Rattle.bits.proofs.Laws.{wrote_then, wrote_refused, wrote_as, wrote_all}
 use Rattle.domain.specs.Domains.{sheet}
 use Rattle.domain.specs.Layout.{sheet_bits}
-use Rattle.domain.specs.Rows.{actions_in}
 use Rattle.domain.proofs.RowParts.{facts_bits, lawful-counts}
 use Rattle.domain.proofs.write.put_domain.Goals as goal
 
@@ -19,15 +18,15 @@ returns-in_err-put c =
     let p = err_from_is_err_and c.from_residual.result c.from_residual.ensures.1 in
     rw p.1 (record {
       filled = λ start. wrote_all start (wrote_refused (sheet_bits (sheet c.args.domain.now)) c.in_err-put.ensures.wrote);
-      name = c.put.ensures.name;
+      name = c.put.ensures.wrote.name;
     })
 
 pub returns-in_err-put-2 : goal.returns-in_err-put-2
 returns-in_err-put-2 c =
     let p = err_from_is_err_and c.from_residual-in_err-put-2.result c.from_residual-in_err-put-2.ensures.1 in
     rw p.1 (record {
-      filled = λ start. wrote_all start (wrote_then c.in_ok-put.ensures.wrote (wrote_refused (numeral 4 (length (actions_in c.args.domain.now.rows) - 1) ++ facts_bits (sheet c.args.domain.now)) (wrote_as (ap (numeral 5) (c.from.ensures ∙ ap (λ k. k - 1) c.fluents.ensures)) c.in_err-put-2.ensures.wrote)));
-      name = c.put-2.ensures.name ∙ c.put.ensures.name;
+      filled = λ start. wrote_all start (wrote_then c.in_ok-put.ensures.wrote (wrote_refused (numeral 4 (length (sheet c.args.domain.now).actions - 1) ++ facts_bits (sheet c.args.domain.now)) (wrote_as (ap (numeral 5) (c.from.ensures ∙ ap (λ k. k - 1) c.fluents.ensures)) c.in_err-put-2.ensures.wrote)));
+      name = c.put-2.ensures.wrote.name ∙ c.put.ensures.wrote.name;
     })
 
 pub returns-in_err-put-3 : goal.returns-in_err-put-3
@@ -35,12 +34,12 @@ returns-in_err-put-3 c =
     let p = err_from_is_err_and c.from_residual-in_err-put-3.result c.from_residual-in_err-put-3.ensures.1 in
     rw p.1 (record {
       filled = λ start. wrote_all start (wrote_then c.in_ok-put.ensures.wrote (wrote_then (wrote_as (ap (numeral 5) (c.from.ensures ∙ ap (λ k. k - 1) c.fluents.ensures)) c.in_ok-put-2.ensures.wrote) (wrote_refused (facts_bits (sheet c.args.domain.now)) (wrote_as (ap (numeral 4) (c.from-2.ensures ∙ ap (λ k. k - 1) c.actions.ensures)) c.in_err-put-3.ensures.wrote))));
-      name = c.put-3.ensures.name ∙ c.put-2.ensures.name ∙ c.put.ensures.name;
+      name = c.put-3.ensures.wrote.name ∙ c.put-2.ensures.wrote.name ∙ c.put.ensures.wrote.name;
     })
 
 pub returns : goal.returns
 returns c =
     record {
-      filled = λ start. wrote_all start (wrote_then c.in_ok-put.ensures.wrote (wrote_then (wrote_as (ap (numeral 5) (c.from.ensures ∙ ap (λ k. k - 1) c.fluents.ensures)) c.in_ok-put-2.ensures.wrote) (wrote_then (wrote_as (ap (numeral 4) (c.from-2.ensures ∙ ap (λ k. k - 1) c.actions.ensures)) c.in_ok-put-3.ensures.wrote) c.put_facts.ensures.wrote)));
-      name = c.put_facts.ensures.name ∙ c.put-3.ensures.name ∙ c.put-2.ensures.name ∙ c.put.ensures.name;
+      filled = λ start. wrote_all start (wrote_then c.in_ok-put.ensures.wrote (wrote_then (wrote_as (ap (numeral 5) (c.from.ensures ∙ ap (λ k. k - 1) c.fluents.ensures)) c.in_ok-put-2.ensures.wrote) (wrote_then (wrote_as (ap (numeral 4) (c.from-2.ensures ∙ ap (λ k. k - 1) c.actions.ensures)) c.in_ok-put-3.ensures.wrote) c.put_facts.ensures)));
+      name = c.put_facts.ensures.name ∙ c.put-3.ensures.wrote.name ∙ c.put-2.ensures.wrote.name ∙ c.put.ensures.wrote.name;
     }

@@ -1,4 +1,3 @@
-use Rattle.std.proofs.Common.{◌∙◌}
 use Rattle.std.proofs.lemmas.Result.{err_from_is_err_and}
 use Rattle.std.specs.List.{flat_map}
 use Rattle.bits.proofs.Laws.{wrote_then, wrote_refused}
@@ -8,14 +7,7 @@ use Rattle.domain.proofs.write.put_groups.Goals as goal
 pub returns-in_err-put : goal.returns-in_err-put
 returns-in_err-put c =
     let p = err_from_is_err_and c.from_residual.result c.from_residual.ensures.1 in
-    rw p.1 (record {
-      wrote = wrote_refused (flat_map (list_bits 4) c.args.groups.now) c.in_err-put.ensures.wrote;
-      name = c.put.ensures.name;
-    })
+    rw p.1 (wrote_refused (flat_map (list_bits 4) c.args.groups.now) c.in_err-put.ensures.wrote)
 
 pub returns : goal.returns
-returns c =
-    record {
-      wrote = wrote_then c.in_ok-put.ensures.wrote c.put_lists.ensures.wrote;
-      name = c.put_lists.ensures.name ∙ c.put.ensures.name;
-    }
+returns c = wrote_then c.in_ok-put.ensures.wrote c.put_lists.ensures

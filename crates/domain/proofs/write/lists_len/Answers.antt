@@ -1,7 +1,7 @@
 use Rattle.std.proofs.Common.{arith}
 use Rattle.bits.proofs.Laws.{length_more, length-all}
 use Rattle.domain.specs.Lists.{list_bits}
-use Rattle.domain.proofs.write.groups_len.Goals as goal
+use Rattle.domain.proofs.write.lists_len.Goals as goal
 
 pub loop-group-preserved : goal.loop-group-preserved
 loop-group-preserved c =
