@@ -20,3 +20,5 @@ pub use Rattle.literals.proofs.Facts.{shows_late, shows-empty, shows-full, shows
 -- which tables are the same, and which are full
 pub use Rattle.literals.proofs.Facts.{length-common, shows-common, common_sets}
 pub use Rattle.literals.proofs.Facts.{same_facts, same_decides, is_full-shows, shows-is_full, full-is_full}
+-- how many actions are recorded
+pub use Rattle.literals.proofs.Ordered.{recorded_few}

@@ -2,5 +2,6 @@ mod Digits
 mod Facts
 pub mod Laws
 mod Members
-mod Words
+mod Ordered
 mod Promise
+mod Words

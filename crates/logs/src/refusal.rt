@@ -1,9 +1,9 @@
 // Why the log refuses a call.
-ghost use Rattle.std.specs.Prelude.{◌≡◌, take};
+ghost use Rattle.std.specs.Prelude.{◌≡◌};
 ghost use Rattle.logs.specs.Refusals.{number_of, values_of};
 ghost use Rattle.logs.specs.declared.refusal.Refusal.TheVariants.{TooMany};
 
-use bits::report::{Report, Values};
+use bits::report::{Report, Reported, Values};
 use literals::set::Literal;
 use reasoner::refusal::TooManyFluents;
 
@@ -35,11 +35,12 @@ impl From<TooManyFluents> for Refusal {
     }
 }
 
-impl Refusal {
-    pub fn report(&self) -> Report
-        ensures number { result.number ≡ number_of self.now }
-        ensures values { take result.values.count result.values.items ≡ values_of self.now }
-    {
+impl Reported for Refusal {
+    ghost number = { number_of };
+
+    ghost values = { values_of };
+
+    fn report(&self) -> Report {
         let (number, values) = match self {
             Refusal::TooMany(refusal) => return refusal.report(),
             Refusal::Full => (10, Values::none()),

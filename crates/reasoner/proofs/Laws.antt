@@ -1,9 +1,9 @@
 -- Every question that code can put is one that can be asked. Assumes nothing.
-use Rattle.std.proofs.Common.{◌≤◌, length, arith}
-use Rattle.std.proofs.lemmas.List.{length-take-le}
+use Rattle.std.proofs.Common.{◌≤◌, length}
 use Rattle.literals.specs.Recorded.{recorded}
 use Rattle.literals.specs.declared.orders.Orders.{Orders}
 use Rattle.literals.specs.declared.table.Table.{Table}
+use Rattle.literals.proofs.Laws.{recorded_few}
 use Rattle.domain.specs.declared.record.Domain.{Domain}
 use Rattle.knowledge.specs.Questions.{IsTable, Askable}
 use Rattle.reasoner.specs.Asking.{question}
@@ -12,7 +12,7 @@ pub is_table : (t : Table) → IsTable t.sets
 is_table t = record { long = t.long; small = t.small }
 
 pub few_recorded : (o : Orders) → length (recorded o) ≤ 32
-few_recorded o = omega (arith, length-take-le o.count o.actions (omega (arith, o.few, o.long)), o.few)
+few_recorded o = recorded_few o
 
 pub askable : (d : Domain) (o : Orders) (t : Table) → Askable (question d o t)
 askable d o t = record { lawful_sheet = d.lawful; few = few_recorded o; table = is_table t }

@@ -1,6 +1,6 @@
-ghost use Rattle.std.specs.Prelude.{◌≡◌, [], ◌∷◌, take};
+ghost use Rattle.std.specs.Prelude.{[], ◌∷◌};
 
-use bits::report::{Report, Values};
+use bits::report::{Report, Reported, Values};
 
 // The domain has more fluents than the reasoner takes.
 #[derive(Clone, Copy, Debug, PartialEq, Eq)]
@@ -8,11 +8,12 @@ pub struct TooManyFluents {
     pub fluents: u8,
 }
 
-impl TooManyFluents {
-    pub fn report(&self) -> Report
-        ensures number { result.number ≡ 9 }
-        ensures values { take result.values.count result.values.items ≡ self.now.fluents ∷ [] }
-    {
+impl Reported for TooManyFluents {
+    ghost number = { λ _. 9 };
+
+    ghost values = { λ refusal. refusal.fluents ∷ [] };
+
+    fn report(&self) -> Report {
         Report {
             number: 9,
             values: Values::one(u128::from(self.fluents)),
