@@ -163,15 +163,7 @@ impl<R: Reasoner> Log<R> {
         ensures sound { OnOk result (HistoryTrue (R.Reasoner.mind self.now.reasoner) (state_of self.now)) }
         ensures kept { NeverFull (R.Reasoner.mind self.now.reasoner) (state_of self.now) }
     {
-        self.put_history(table)
-    }
-
-    fn put_history(&self, table: &mut Table) -> Result<(), Refusal>
-        ensures value { result ≡ if_taken (R.Reasoner.mind self.now.reasoner) (state_of self.now) (Ok tt) }
-        ensures table { table.new.sets ≡ (if is_ok result then history (R.Reasoner.mind self.now.reasoner) (state_of self.now) else table.old.sets) }
-    {
-        self.reasoner
-            .ask(&self.domain, &self.state.orders, &self.state.told, table)?;
+        *table = self.history()?;
         Ok(())
     }
 
@@ -275,18 +267,13 @@ fn is_within(table: &Table, other: &Table) -> bool
 fn is_sensing(domain: &Domain, action: u8) -> bool
     ensures { result ≡ senses (sensed_of (sheet domain.now) action) }
 {
-    match domain.sensed(action) {
-        Some(_) => true,
-        None => false,
-    }
+    domain.sensed(action).is_some()
 }
 
 // The literal that says what a sensing action saw.
 fn sensed_literal(domain: &Domain, action: u8, seen: bool) -> Option<Literal>
     ensures { result ≡ sensed_literal (sensed_of (sheet domain.now) action) seen }
 {
-    match domain.sensed(action) {
-        Some(fluent) => Some(2 * fluent + u8::from(seen)),
-        None => None,
-    }
+    let fluent = domain.sensed(action)?;
+    Some(2 * fluent + u8::from(seen))
 }

@@ -3,6 +3,7 @@ ghost use Rattle.std.specs.Prelude.{◌≡◌, true, false, ◌&&◌, ltb, [], �
 ghost use Rattle.literals.specs.Recorded.{recorded};
 ghost use Rattle.literals.specs.Tables.{empty};
 
+use lists::slices::put;
 use literals::orders::Orders;
 use literals::table::Table;
 
@@ -25,32 +26,14 @@ impl Owed {
     pub(crate) fn at(&self, moment: usize) -> bool
         ensures { result ≡ slice_index_or self.now.moments moment false }
     {
-        flag(&self.moments, moment)
+        self.moments.get(moment).copied().unwrap_or(false)
     }
 
     // Past the moments nothing changes.
     pub(crate) fn put(&mut self, moment: usize, owed: bool)
         ensures { self.new.moments ≡ slice_set self.old.moments moment owed }
     {
-        replace(&mut self.moments, moment, owed);
-    }
-}
-
-fn flag(moments: &[bool], moment: usize) -> bool
-    ensures { result ≡ slice_index_or moments.now moment false }
-{
-    if moment < moments.len() {
-        moments[moment]
-    } else {
-        false
-    }
-}
-
-fn replace(moments: &mut [bool], moment: usize, owed: bool)
-    ensures { moments.new ≡ slice_set moments.old moment owed }
-{
-    if moment < moments.len() {
-        moments[moment] = owed;
+        put(&mut self.moments, moment, owed);
     }
 }
 
@@ -110,9 +93,7 @@ impl State {
 fn is_at(orders: &[u8], moment: u8, action: u8) -> bool
     ensures { result ≡ (nat_lt moment (length orders.now) && slice_index orders.now moment == action) }
 {
-    let index = usize::from(moment);
-    if index >= orders.len() {
-        return false;
-    }
-    orders[index] == action
+    orders
+        .get(usize::from(moment))
+        .is_some_and(|ordered| *ordered == action)
 }
