@@ -1,6 +1,7 @@
 -- What reading and writing a field answer. A place counts bits from 0. Assumes nothing.
-use Rattle.std.specs.Prelude.{◌≡◌, ℕ, suc, ◌+◌, ◌-◌, ◌*◌, ◌%◌, ◌≤◌, Bool, true, false, cond, List, [], ◌∷◌, length, take, drop, Ok, Err, Result, nat_le, nat_lt}
+use Rattle.std.specs.Prelude.{◌≡◌, ℕ, suc, ◌+◌, ◌-◌, ◌*◌, ◌%◌, ◌≤◌, Bool, true, false, cond, List, [], ◌∷◌, length, take, drop, Ok, Err, IfOk, Result, nat_le, nat_lt}
 use Rattle.bits.specs.Bits.{number, bytes_for, put, holding}
+use Rattle.bits.specs.declared.reader.Reader.{Reader}
 use Rattle.bits.specs.declared.refusal.Refusal.{Refusal}
 use Rattle.bits.specs.declared.refusal.Refusal.TheVariants.{Ended, Trailing}
 use Rattle.bits.specs.declared.refusal.TooShort.{TooShort}
@@ -18,6 +19,11 @@ field bits p w = cond (nat_le (p + w) (length bits)) (Ok (number_at bits p w, p 
 abbrev pub next_place : {A E : Type 0} → Result (A × ℕ) E → ℕ → ℕ
 next_place (Ok r) p = r.1
 next_place (Err e) p = p
+
+-- a read leaves the bytes as they are, and where it is accepted, its reader stands at the place that it answers
+pub record Onward {A E : Type 0} (answer : Result (A × ℕ) E) (old new : Reader) : Type 0 where
+  pub bytes : new.bytes ≡ old.bytes
+  pub place : IfOk answer (λ v. new.place ≡ v.1)
 
 -- one read after another: what was read and the next place go to the next read, and a refusal ends all
 abbrev pub followed : {A B E : Type 0} → Result (A × ℕ) E → (A → ℕ → Result B E) → Result B E

@@ -1,6 +1,4 @@
-ghost use Rattle.std.specs.Prelude.{◌≡◌, ◌+◌, ◌*◌, ◌^◌, ◌<◌, ◌≤◌, false, length, IfOk, slice_index_or};
-ghost use Rattle.bits.specs.Bits.{bits_of};
-ghost use Rattle.bits.specs.Fields.{field as field_at, number_at, next_place, fill_end, ending};
+ghost use Rattle.std.specs.Prelude.{◌*◌, ◌≤◌, length};
 
 use crate::refusal::Refusal;
 use crate::width::Width;
@@ -14,6 +12,10 @@ pub struct Reader<'a> {
 }
 
 impl<'a> Reader<'a> {
+    ghost use Rattle.std.specs.Prelude.{◌≡◌, ◌+◌, ◌*◌, ◌^◌, ◌<◌, ◌≤◌, false, length, IfOk, slice_index_or};
+    ghost use Rattle.bits.specs.Bits.{bits_of};
+    ghost use Rattle.bits.specs.Fields.{field as field_at, number_at, next_place, fill_end, ending};
+
     // At the first bit of the bytes.
     pub fn new(bytes: &'a [u8]) -> Self
         ensures bytes { result.bytes ≡ bytes.entry }

@@ -2,7 +2,7 @@
 ghost use Rattle.std.specs.Prelude.{◌≡◌, ◌/◌, ◌^◌, ◌<◌, ◌≤◌, length, is_ok, IfOk};
 ghost use Rattle.std.specs.List.{flat_map};
 ghost use Rattle.bits.specs.Bits.{bits_of, numeral};
-ghost use Rattle.bits.specs.Fields.{next_place, Wrote};
+ghost use Rattle.bits.specs.Fields.{Onward, Wrote};
 ghost use Rattle.domain.specs.Lists.{domain_field, count_at, literal_at, literals_at, list_at, members_from, members, list_bits};
 
 use crate::refusal::Refusal;
@@ -16,8 +16,7 @@ use literals::set::{Literal, LiteralSet, contains, with};
 pub(crate) fn field(reader: &mut Reader, width: Width) -> Result<(u16, u128), Refusal>
     ensures value { result ≡ domain_field (bits_of reader.old.bytes.now) reader.old.place width.bits }
     ensures small { IfOk result (λ v. v.0 < 2 ^ width.bits) }
-    ensures bytes { reader.new.bytes ≡ reader.old.bytes }
-    ensures place { reader.new.place ≡ next_place result reader.old.place }
+    ensures moved { Onward result reader.old reader.new }
 {
     let read = reader.field(width)?;
     Ok(read)
@@ -60,8 +59,7 @@ pub(crate) const CONDITIONS: Range = Range {
 pub(crate) fn count(reader: &mut Reader, range: Range) -> Result<(u8, u128), Refusal>
     ensures value { result ≡ count_at (bits_of reader.old.bytes.now) range.width.bits range.least range.most reader.old.place }
     ensures few { IfOk result (λ v. v.0 ≤ range.most) }
-    ensures bytes { reader.new.bytes ≡ reader.old.bytes }
-    ensures place { IfOk result (λ v. reader.new.place ≡ v.1) }
+    ensures moved { Onward result reader.old reader.new }
 {
     let place = reader.place();
     let (count, next) = field(reader, range.width)?;
@@ -80,8 +78,7 @@ pub(crate) fn literal(
     ensures value { result ≡ literal_at (bits_of reader.old.bytes.now) fluents least reader.old.place }
     ensures small { IfOk result (λ v. v.0 < 64) }
     ensures known { IfOk result (λ v. v.0 / 2 < fluents) }
-    ensures bytes { reader.new.bytes ≡ reader.old.bytes }
-    ensures place { IfOk result (λ v. reader.new.place ≡ v.1) }
+    ensures moved { Onward result reader.old reader.new }
 {
     let place = reader.place();
     let (number, next) = field(reader, Width::SIX)?;
@@ -102,8 +99,7 @@ pub(crate) fn list(
     range: Range,
 ) -> Result<(LiteralSet, u128), Refusal>
     ensures value { result ≡ list_at (bits_of reader.old.bytes.now) fluents range.width.bits range.least range.most reader.old.place }
-    ensures bytes { reader.new.bytes ≡ reader.old.bytes }
-    ensures place { IfOk result (λ v. reader.new.place ≡ v.1) }
+    ensures moved { Onward result reader.old reader.new }
 {
     let (count, _) = count(reader, range)?;
     literals(reader, fluents, count)
@@ -112,8 +108,7 @@ pub(crate) fn list(
 // So many literals whose fluents rise strictly.
 fn literals(reader: &mut Reader, fluents: u8, count: u8) -> Result<(LiteralSet, u128), Refusal>
     ensures value { result ≡ literals_at count (bits_of reader.old.bytes.now) fluents 0 0 reader.old.place }
-    ensures bytes { reader.new.bytes ≡ reader.old.bytes }
-    ensures place { IfOk result (λ v. reader.new.place ≡ v.1) }
+    ensures moved { Onward result reader.old reader.new }
 {
     let mut set = 0;
     let mut least = 0;

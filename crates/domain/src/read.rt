@@ -1,6 +1,7 @@
 // Domain sheets, read field by field.
 ghost use Rattle.std.specs.Prelude.{◌≡◌, ◌≤◌, true, IfOk};
 ghost use Rattle.bits.specs.Bits.{bits_of};
+ghost use Rattle.bits.specs.Fields.{Onward};
 ghost use Rattle.lists.specs.Lists.{items_of};
 ghost use Rattle.domain.specs.Domains.{held, spelled};
 ghost use Rattle.domain.specs.Layout.{row_at, action_at, actions_at, groups_at, all_groups_at, goals_at, facts_at, sheet_at, read_domain};
@@ -48,8 +49,7 @@ fn whole(bytes: &[u8]) -> Result<Parts, Refusal>
 // The counts of fluents and of actions, each less one, and what comes after them.
 fn sheet(reader: &mut Reader) -> Result<(Parts, u128), Refusal>
     ensures value { holds parts_sheet result ≡ sheet_at (bits_of reader.old.bytes.now) reader.old.place }
-    ensures bytes { reader.new.bytes ≡ reader.old.bytes }
-    ensures place { IfOk result (λ v. reader.new.place ≡ v.1) }
+    ensures moved { Onward result reader.old reader.new }
 {
     let (fluents, _) = field(reader, Width::FIVE)?;
     let (actions, _) = field(reader, Width::FOUR)?;
@@ -60,8 +60,7 @@ fn sheet(reader: &mut Reader) -> Result<(Parts, u128), Refusal>
 fn facts(reader: &mut Reader, fluents: u8, actions: u8) -> Result<(Parts, u128), Refusal>
     requires { actions ≤ 16 }
     ensures value { holds parts_sheet result ≡ facts_at (bits_of reader.old.bytes.now) fluents actions reader.old.place }
-    ensures bytes { reader.new.bytes ≡ reader.old.bytes }
-    ensures place { IfOk result (λ v. reader.new.place ≡ v.1) }
+    ensures moved { Onward result reader.old reader.new }
 {
     let (initial, _) = list(reader, fluents, INITIAL)?;
     let (groups, _) = all_groups(reader, fluents)?;
@@ -86,8 +85,7 @@ fn groups(
 ) -> Result<(FixedList<LiteralSet, 8>, u128), Refusal>
     requires { count ≤ 8 }
     ensures value { holds items_of result ≡ groups_at count (bits_of reader.old.bytes.now) fluents reader.old.place }
-    ensures bytes { reader.new.bytes ≡ reader.old.bytes }
-    ensures place { IfOk result (λ v. reader.new.place ≡ v.1) }
+    ensures moved { Onward result reader.old reader.new }
 {
     let mut groups = FixedList::empty(0);
     for _i in 0..count {
@@ -100,8 +98,7 @@ fn groups(
 // A count of groups and the groups.
 fn all_groups(reader: &mut Reader, fluents: u8) -> Result<(FixedList<LiteralSet, 8>, u128), Refusal>
     ensures value { holds items_of result ≡ all_groups_at (bits_of reader.old.bytes.now) fluents reader.old.place }
-    ensures bytes { reader.new.bytes ≡ reader.old.bytes }
-    ensures place { IfOk result (λ v. reader.new.place ≡ v.1) }
+    ensures moved { Onward result reader.old reader.new }
 {
     let (count, _) = count(reader, UP_TO_EIGHT)?;
     groups(reader, fluents, count)
@@ -111,8 +108,7 @@ fn all_groups(reader: &mut Reader, fluents: u8) -> Result<(FixedList<LiteralSet,
 fn rows(reader: &mut Reader, fluents: u8, count: u8) -> Result<(FixedList<Row, 16>, u128), Refusal>
     requires { count ≤ 16 }
     ensures value { holds actions_in result ≡ actions_at count (bits_of reader.old.bytes.now) fluents 0 reader.old.place }
-    ensures bytes { reader.new.bytes ≡ reader.old.bytes }
-    ensures place { IfOk result (λ v. reader.new.place ≡ v.1) }
+    ensures moved { Onward result reader.old reader.new }
 {
     let nothing = Row {
         needs: 0,
@@ -129,8 +125,7 @@ fn rows(reader: &mut Reader, fluents: u8, count: u8) -> Result<(FixedList<Row, 1
 // An action.
 fn row(reader: &mut Reader, fluents: u8, action: u8) -> Result<(Row, u128), Refusal>
     ensures value { holds action_in result ≡ action_at (bits_of reader.old.bytes.now) fluents action reader.old.place }
-    ensures bytes { reader.new.bytes ≡ reader.old.bytes }
-    ensures place { IfOk result (λ v. reader.new.place ≡ v.1) }
+    ensures moved { Onward result reader.old reader.new }
 {
     let (kind, _) = field(reader, Width::ONE)?;
     row_of_kind(reader, fluents, action, kind)
@@ -144,8 +139,7 @@ fn row_of_kind(
     kind: u16,
 ) -> Result<(Row, u128), Refusal>
     ensures value { holds action_in result ≡ row_at (bits_of reader.old.bytes.now) fluents action kind reader.old.place }
-    ensures bytes { reader.new.bytes ≡ reader.old.bytes }
-    ensures place { IfOk result (λ v. reader.new.place ≡ v.1) }
+    ensures moved { Onward result reader.old reader.new }
 {
     let (needs, _) = list(reader, fluents, UP_TO_EIGHT)?;
     let (kind, next) = deed(reader, fluents, action, kind)?;
@@ -155,8 +149,7 @@ fn row_of_kind(
 // The strong and the weak goals.
 fn goals(reader: &mut Reader, fluents: u8) -> Result<((LiteralSet, LiteralSet), u128), Refusal>
     ensures value { result ≡ goals_at (bits_of reader.old.bytes.now) fluents reader.old.place }
-    ensures bytes { reader.new.bytes ≡ reader.old.bytes }
-    ensures place { IfOk result (λ v. reader.new.place ≡ v.1) }
+    ensures moved { Onward result reader.old reader.new }
 {
     let (strong, _) = list(reader, fluents, UP_TO_EIGHT)?;
     let (weak, next) = list(reader, fluents, UP_TO_EIGHT)?;

@@ -1,6 +1,7 @@
 // Effects and actions, read field by field.
 ghost use Rattle.std.specs.Prelude.{◌≡◌, ◌+◌, ◌^◌, ◌<◌, ◌≤◌, [], length, IfOk, if◌then◌else◌, Some, None};
 ghost use Rattle.bits.specs.Bits.{bits_of};
+ghost use Rattle.bits.specs.Fields.{Onward};
 ghost use Rattle.domain.specs.Layout.{effect_at, effects_at, counted_at, working_at, sensing_at, deed_at, clash_place};
 ghost use Rattle.lists.specs.Lists.{items_of};
 ghost use Rattle.domain.specs.Rows.{deed_in, holds};
@@ -23,8 +24,7 @@ pub(crate) fn deed(
     kind: u16,
 ) -> Result<(Kind, u128), Refusal>
     ensures value { holds deed_in result ≡ deed_at (bits_of reader.old.bytes.now) fluents action kind reader.old.place }
-    ensures bytes { reader.new.bytes ≡ reader.old.bytes }
-    ensures place { IfOk result (λ v. reader.new.place ≡ v.1) }
+    ensures moved { Onward result reader.old reader.new }
 {
     if kind == 1 {
         let (fluent, next) = sensing(reader, fluents)?;
@@ -37,8 +37,7 @@ pub(crate) fn deed(
 // The fluent that an action senses.
 fn sensing(reader: &mut Reader, fluents: u8) -> Result<(u8, u128), Refusal>
     ensures value { result ≡ sensing_at (bits_of reader.old.bytes.now) fluents reader.old.place }
-    ensures bytes { reader.new.bytes ≡ reader.old.bytes }
-    ensures place { IfOk result (λ v. reader.new.place ≡ v.1) }
+    ensures moved { Onward result reader.old reader.new }
 {
     let place = reader.place();
     let (fluent, next) = field(reader, Width::FIVE)?;
@@ -55,8 +54,7 @@ fn working(
     action: u8,
 ) -> Result<(FixedList<Effect, 8>, u128), Refusal>
     ensures value { holds items_of result ≡ working_at (bits_of reader.old.bytes.now) fluents action reader.old.place }
-    ensures bytes { reader.new.bytes ≡ reader.old.bytes }
-    ensures place { IfOk result (λ v. reader.new.place ≡ v.1) }
+    ensures moved { Onward result reader.old reader.new }
 {
     let start = reader.place();
     let (effects, next) = counted(reader, fluents)?;
@@ -99,8 +97,7 @@ fn clash(one: &Effect, other: &Effect) -> bool
 // A count of effects and the effects.
 fn counted(reader: &mut Reader, fluents: u8) -> Result<(FixedList<Effect, 8>, u128), Refusal>
     ensures value { holds items_of result ≡ counted_at (bits_of reader.old.bytes.now) fluents reader.old.place }
-    ensures bytes { reader.new.bytes ≡ reader.old.bytes }
-    ensures place { IfOk result (λ v. reader.new.place ≡ v.1) }
+    ensures moved { Onward result reader.old reader.new }
 {
     let (count, _) = count(reader, UP_TO_EIGHT)?;
     effects(reader, fluents, count)
@@ -114,8 +111,7 @@ fn effects(
 ) -> Result<(FixedList<Effect, 8>, u128), Refusal>
     requires { count ≤ 8 }
     ensures value { holds items_of result ≡ effects_at count (bits_of reader.old.bytes.now) fluents 0 reader.old.place }
-    ensures bytes { reader.new.bytes ≡ reader.old.bytes }
-    ensures place { IfOk result (λ v. reader.new.place ≡ v.1) }
+    ensures moved { Onward result reader.old reader.new }
 {
     let nothing = Effect {
         conditions: 0,
@@ -135,8 +131,7 @@ fn effects(
 fn effect(reader: &mut Reader, fluents: u8, least: u8) -> Result<(Effect, u128), Refusal>
     ensures value { result ≡ effect_at (bits_of reader.old.bytes.now) fluents least reader.old.place }
     ensures small { IfOk result (λ v. v.0.literal < 64) }
-    ensures bytes { reader.new.bytes ≡ reader.old.bytes }
-    ensures place { IfOk result (λ v. reader.new.place ≡ v.1) }
+    ensures moved { Onward result reader.old reader.new }
 {
     let (conditions, _) = list(reader, fluents, CONDITIONS)?;
     let (literal, next) = literal(reader, fluents, least)?;

@@ -1,6 +1,6 @@
 ghost use Rattle.std.specs.Prelude.{◌≡◌, ◌^◌, ◌<◌, ◌∷◌, ◌++◌, [], length, IfOk};
 ghost use Rattle.bits.specs.Bits.{bits_of};
-ghost use Rattle.bits.specs.Fields.{next_place};
+ghost use Rattle.bits.specs.Fields.{Onward};
 ghost use Rattle.lists.specs.Lists.{items_of};
 ghost use Rattle.plan.specs.Layout.{plan_field, node_at, plan_at, read_plan};
 ghost use Rattle.plan.specs.Plans.{held, spelled};
@@ -70,8 +70,7 @@ fn push(nodes: &mut Nodes, node: Node)
 // The node at the reader's place, with `count` nodes before it and room for `remaining` orders and looks.
 fn node(reader: &mut Reader, count: usize, remaining: u8) -> Result<(Node, u128), Refusal>
     ensures value { result ≡ node_at (bits_of reader.old.bytes.now) remaining count reader.old.place }
-    ensures bytes { reader.new.bytes ≡ reader.old.bytes }
-    ensures place { IfOk result (λ v. reader.new.place ≡ v.1) }
+    ensures moved { Onward result reader.old reader.new }
 {
     let place = reader.place();
     let (tag, next) = field(reader, Width::TWO)?;
@@ -100,8 +99,7 @@ fn node(reader: &mut Reader, count: usize, remaining: u8) -> Result<(Node, u128)
 fn field(reader: &mut Reader, width: Width) -> Result<(u16, u128), Refusal>
     ensures value { result ≡ plan_field (bits_of reader.old.bytes.now) reader.old.place width.bits }
     ensures small { IfOk result (λ v. v.0 < 2 ^ width.bits) }
-    ensures bytes { reader.new.bytes ≡ reader.old.bytes }
-    ensures place { reader.new.place ≡ next_place result reader.old.place }
+    ensures moved { Onward result reader.old reader.new }
 {
     let read = reader.field(width)?;
     Ok(read)

@@ -9,11 +9,11 @@ pub returns-in_err-count : goal.returns-in_err-count
 returns-in_err-count c =
     let p = err_from_is_err_and c.from_residual.result c.from_residual.ensures.1 in
     let told = list_refused _ c.args.fluents _ _ _ _ _ (sym c.count.ensures.value ∙ c.in_err-count.was) in
-    rw (p.1, p.2) (record { value = sym told; bytes = c.count.ensures.bytes; place = tt })
+    rw (p.1, p.2) (record { value = sym told; moved = record { bytes = c.count.ensures.moved.bytes; place = tt } })
 
 pub returns : goal.returns
 returns c =
-    let same = c.count.ensures.bytes in
+    let same = c.count.ensures.moved.bytes in
     let n = c.in_ok-count.count in
     let bits = bits_of c.args.reader.now.bytes.now in
     let told = list_step _ c.args.fluents _ _ _ _ _ _ (sym c.count.ensures.value ∙ c.in_ok-count.was) in
@@ -21,8 +21,7 @@ returns c =
       value =
           c.literals.ensures.value
           ∙ ap (λ b. literals_at n (bits_of b.now) c.args.fluents 0 0 c.count.new.reader.place) same
-          ∙ ap (literals_at n bits c.args.fluents 0 0) c.in_ok-count.ensures.place
+          ∙ ap (literals_at n bits c.args.fluents 0 0) c.in_ok-count.ensures.moved.place
           ∙ sym told;
-      bytes = c.literals.ensures.bytes ∙ same;
-      place = c.literals.ensures.place;
+      moved = record { bytes = c.literals.ensures.moved.bytes ∙ same; place = c.literals.ensures.moved.place };
     }

@@ -21,8 +21,7 @@ returns-in_err-next c =
     let told = literals_refused bits c.args.fluents (c.args.count - c.loop-i._i) (c.args.count - (c.loop-i._i + 1)) c.loop-i.least c.loop-i.set at c.in_err-next.field-0.0 (omega arith) refused in
     rw (p.1, p.2) (record {
       value = sym told ∙ c.loop-i.invariant.1;
-      bytes = c.literal.ensures.bytes ∙ c.loop-i.invariant.0;
-      place = tt;
+      moved = record { bytes = c.literal.ensures.moved.bytes ∙ c.loop-i.invariant.0; place = tt };
     })
 
 pub loop-i-preserved : goal.loop-i-preserved
@@ -36,9 +35,9 @@ loop-i-preserved c =
     let read : literal_at bits fluents c.loop-i.least at ≡ Ok (l, q) =
     ap (λ b. literal_at (bits_of b.now) fluents c.loop-i.least at) (sym c.loop-i.invariant.0) ∙ sym c.literal.ensures.value ∙ c.in_ok-next.was in
     let told = literals_step bits fluents (c.args.count - c.loop-i._i) left c.loop-i.least c.loop-i.set at l q (omega arith) read in (
-      c.literal.ensures.bytes ∙ c.loop-i.invariant.0,
+      c.literal.ensures.moved.bytes ∙ c.loop-i.invariant.0,
       ap (λ s. literals_at left bits fluents ((l / 2 + 1) * 2) s c.literal.new.reader.place) c.with-set.ensures
-          ∙ ap (λ r. literals_at left bits fluents ((l / 2 + 1) * 2) (with c.loop-i.set l) r) c.in_ok-next.ensures.place
+          ∙ ap (λ r. literals_at left bits fluents ((l / 2 + 1) * 2) (with c.loop-i.set l) r) c.in_ok-next.ensures.moved.place
           ∙ sym told ∙ c.loop-i.invariant.1,
     )
 
@@ -48,6 +47,5 @@ returns c =
     let all = literals_none bits c.args.fluents (c.args.count - c.loop-i._i) c.loop-i.least c.loop-i.set c.loop-i.reader.place (omega arith) in
     record {
       value = ap (λ q. Ok (c.loop-i.set, q)) c.place.ensures ∙ sym all ∙ c.loop-i.invariant.1;
-      bytes = c.loop-i.invariant.0;
-      place = sym c.place.ensures;
+      moved = record { bytes = c.loop-i.invariant.0; place = sym c.place.ensures };
     }

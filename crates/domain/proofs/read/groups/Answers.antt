@@ -18,8 +18,7 @@ returns-in_err-next c =
     let read = read_here (λ bits. list_at bits c.args.fluents 4 2 8 c.loop-i.reader.place) c.list.ensures.value c.loop-i.invariant.1 ∙ c.in_err-next.was in
     rw (p.1, p.2) (record {
       value = items_stop (group_items (bits_of c.args.reader.now.bytes.now) c.args.fluents) c.args.count c.loop-i._i _ _ tt _ c.loop-i.invariant.2 _ c.loop-i-test.true read;
-      bytes = c.list.ensures.bytes ∙ c.loop-i.invariant.1;
-      place = tt;
+      moved = record { bytes = c.list.ensures.moved.bytes ∙ c.loop-i.invariant.1; place = tt };
     })
 
 pub loop-i-preserved : goal.loop-i-preserved
@@ -27,12 +26,11 @@ loop-i-preserved c =
     let read = read_here (λ bits. list_at bits c.args.fluents 4 2 8 c.loop-i.reader.place) c.list.ensures.value c.loop-i.invariant.1 ∙ c.in_ok-next.was in
     let more = items_more (group_items (bits_of c.args.reader.now.bytes.now) c.args.fluents) c.args.count c.loop-i._i _ _ tt _ c.loop-i.invariant.2 _ _ c.loop-i-test.true read in
     let grew = pushed (items_of c.loop-i.groups) 8 c.in_ok-next.next c.push.ensures.room c.push.ensures.items (omega (arith, c.loop-i.invariant.0, c.loop-i-test.true, c.requires)) in
-    (pushed_long _ c.in_ok-next.next c.loop-i._i grew c.loop-i.invariant.0, c.list.ensures.bytes ∙ c.loop-i.invariant.1, rw (grew, c.in_ok-next.ensures.place) more)
+    (pushed_long _ c.in_ok-next.next c.loop-i._i grew c.loop-i.invariant.0, c.list.ensures.moved.bytes ∙ c.loop-i.invariant.1, rw (grew, c.in_ok-next.ensures.moved.place) more)
 
 pub returns : goal.returns
 returns c =
     record {
       value = rw c.place.ensures (items_done (group_items (bits_of c.args.reader.now.bytes.now) c.args.fluents) c.args.count c.loop-i._i _ _ tt _ c.loop-i.invariant.2 c.loop-i-test.false);
-      bytes = c.loop-i.invariant.1;
-      place = sym c.place.ensures;
+      moved = record { bytes = c.loop-i.invariant.1; place = sym c.place.ensures };
     }

@@ -15,8 +15,7 @@ returns-in_err-next c =
     let read = read_here (λ bits. action_at bits c.args.fluents c.loop-action.action c.loop-action.reader.place) c.row.ensures.value c.loop-action.invariant.1 ∙ ap (holds action_in) c.in_err-next.was in
     rw (p.1, p.2) (record {
       value = items_stop (action_items (bits_of c.args.reader.now.bytes.now) c.args.fluents) c.args.count c.loop-action.action _ _ _ _ c.loop-action.invariant.2 _ c.loop-action-test.true read;
-      bytes = c.row.ensures.bytes ∙ c.loop-action.invariant.1;
-      place = tt;
+      moved = record { bytes = c.row.ensures.moved.bytes ∙ c.loop-action.invariant.1; place = tt };
     })
 
 pub loop-action-preserved : goal.loop-action-preserved
@@ -26,12 +25,11 @@ loop-action-preserved c =
     let rows = items_of c.loop-action.rows in
     let grew = pushed rows 16 c.in_ok-next.next c.push.ensures.room c.push.ensures.items (omega (arith, c.loop-action.invariant.0, c.loop-action-test.true, c.requires)) in
     let actions = ap (map action_in) grew ∙ map-append action_in rows (c.in_ok-next.next ∷ []) in
-    (pushed_long _ c.in_ok-next.next c.loop-action.action grew c.loop-action.invariant.0, c.row.ensures.bytes ∙ c.loop-action.invariant.1, rw (actions, c.in_ok-next.ensures.place) more)
+    (pushed_long _ c.in_ok-next.next c.loop-action.action grew c.loop-action.invariant.0, c.row.ensures.moved.bytes ∙ c.loop-action.invariant.1, rw (actions, c.in_ok-next.ensures.moved.place) more)
 
 pub returns : goal.returns
 returns c =
     record {
       value = rw c.place.ensures (items_done (action_items (bits_of c.args.reader.now.bytes.now) c.args.fluents) c.args.count c.loop-action.action _ _ _ _ c.loop-action.invariant.2 c.loop-action-test.false);
-      bytes = c.loop-action.invariant.1;
-      place = sym c.place.ensures;
+      moved = record { bytes = c.loop-action.invariant.1; place = sym c.place.ensures };
     }

@@ -45,8 +45,8 @@ pub returns-in_err-parts : goal.returns-in_err-parts
 returns-in_err-parts c =
     let p = err_from_is_err_and c.from_residual-in_err-parts.result c.from_residual-in_err-parts.ensures.1 in
     let field = edition_as c.field.ensures.value c.new-reader.ensures.bytes c.new-reader.ensures.place ∙ c.in_ok-edition.was in
-    let same = c.field.ensures.bytes ∙ c.new-reader.ensures.bytes in
-    let sheet = sheet_as c.sheet.ensures.value same c.in_ok-edition.ensures.place ∙ ap (holds parts_sheet) c.in_err-parts.was in
+    let same = c.field.ensures.moved.bytes ∙ c.new-reader.ensures.bytes in
+    let sheet = sheet_as c.sheet.ensures.value same c.in_ok-edition.ensures.moved.place ∙ ap (holds parts_sheet) c.in_err-parts.was in
     rw (p.1, p.2) (record {
       value = sym (sheet_refused c.args.bytes.now _ _ _ field c.if-edition-ne1.false sheet);
       lawful = tt;
@@ -57,9 +57,9 @@ pub returns-in_err-finish : goal.returns-in_err-finish
 returns-in_err-finish c =
     let p = err_from_is_err_and c.from_residual-in_err-finish.result c.from_residual-in_err-finish.ensures.1 in
     let field = edition_as c.field.ensures.value c.new-reader.ensures.bytes c.new-reader.ensures.place ∙ c.in_ok-edition.was in
-    let same = c.field.ensures.bytes ∙ c.new-reader.ensures.bytes in
-    let sheet = sheet_as c.sheet.ensures.value same c.in_ok-edition.ensures.place ∙ ap (holds parts_sheet) c.in_ok-parts.was in
-    let last = ending_as c.sheet.new.reader.place _ c.finish.ensures (c.sheet.ensures.bytes ∙ same) c.in_ok-parts.ensures.place ∙ c.in_err-finish.was in
+    let same = c.field.ensures.moved.bytes ∙ c.new-reader.ensures.bytes in
+    let sheet = sheet_as c.sheet.ensures.value same c.in_ok-edition.ensures.moved.place ∙ ap (holds parts_sheet) c.in_ok-parts.was in
+    let last = ending_as c.sheet.new.reader.place _ c.finish.ensures (c.sheet.ensures.moved.bytes ∙ same) c.in_ok-parts.ensures.moved.place ∙ c.in_err-finish.was in
     rw (p.1, p.2) (record {
       value = sym (all_read c.args.bytes.now _ _ _ _ field c.if-edition-ne1.false sheet last);
       lawful = tt;
@@ -69,9 +69,9 @@ returns-in_err-finish c =
 pub returns : goal.returns
 returns c =
     let field = edition_as c.field.ensures.value c.new-reader.ensures.bytes c.new-reader.ensures.place ∙ c.in_ok-edition.was in
-    let same = c.field.ensures.bytes ∙ c.new-reader.ensures.bytes in
-    let sheet = sheet_as c.sheet.ensures.value same c.in_ok-edition.ensures.place ∙ ap (holds parts_sheet) c.in_ok-parts.was in
-    let last = ending_as c.sheet.new.reader.place _ c.finish.ensures (c.sheet.ensures.bytes ∙ same) c.in_ok-parts.ensures.place ∙ c.in_ok-finish.was in
+    let same = c.field.ensures.moved.bytes ∙ c.new-reader.ensures.bytes in
+    let sheet = sheet_as c.sheet.ensures.value same c.in_ok-edition.ensures.moved.place ∙ ap (holds parts_sheet) c.in_ok-parts.was in
+    let last = ending_as c.sheet.new.reader.place _ c.finish.ensures (c.sheet.ensures.moved.bytes ∙ same) c.in_ok-parts.ensures.moved.place ∙ c.in_ok-finish.was in
     let read = all_read c.args.bytes.now _ _ _ _ field c.if-edition-ne1.false sheet last in
     record {
       value = sym read;

@@ -18,7 +18,7 @@ pub returns-in_err-first : goal.returns-in_err-first
 returns-in_err-first t c =
     let p = err_from_is_err_and c.from_residual.result c.from_residual.ensures.1 in
     record {
-      bytes = c.node.ensures.bytes;
+      bytes = c.node.ensures.moved.bytes;
       added = added_refused _ _ _ _ _ _ _ _ c.in_err-first.field-0.0 (sym (told _ _ _ c.node.ensures.value c.as_slice.ensures.items) ∙ c.in_err-first.was) (p.1 ∙ ap Err p.2);
     }
 
@@ -27,18 +27,18 @@ returns-in-End t c =
     let node = sym (told _ _ _ c.node.ensures.value c.as_slice.ensures.items) ∙ c.in_ok-first.was in
     let first = c.in-End.is in
     record {
-      bytes = c.node.ensures.bytes;
-      added = added_end _ _ _ _ _ _ _ _ c.in_ok-first.field-0-1 (rw first at node) refl (rw first at c.push.ensures) c.in_ok-first.ensures.place;
+      bytes = c.node.ensures.moved.bytes;
+      added = added_end _ _ _ _ _ _ _ _ c.in_ok-first.field-0-1 (rw first at node) refl (rw first at c.push.ensures) c.in_ok-first.ensures.moved.place;
     }
 
 pub returns-in-Order : goal.returns-in-Order
 returns-in-Order t c =
     let node = sym (told _ _ _ c.node.ensures.value c.as_slice.ensures.items) ∙ c.in_ok-first.was in
     let first = c.in-Order.is in
-    let same = c.node.ensures.bytes in
+    let same = c.node.ensures.moved.bytes in
     record {
       bytes = c.subplan.ensures.bytes ∙ same;
-      added = added_order _ _ _ _ _ _ _ _ c.in-Order.action c.in_ok-first.field-0-1 _ (rw first at node) (rw first at c.push.ensures) (read_as _ _ _ (ap (λ b. bits_of b.now) same) (one_more _ _ c.push.ensures) c.in_ok-first.ensures.place refl refl c.subplan.ensures.added);
+      added = added_order _ _ _ _ _ _ _ _ c.in-Order.action c.in_ok-first.field-0-1 _ (rw first at node) (rw first at c.push.ensures) (read_as _ _ _ (ap (λ b. bits_of b.now) same) (one_more _ _ c.push.ensures) c.in_ok-first.ensures.moved.place refl refl c.subplan.ensures.added);
     }
 
 pub returns-in_err-subplan-in-Look : goal.returns-in_err-subplan-in-Look
@@ -46,8 +46,8 @@ returns-in_err-subplan-in-Look t c =
     let p = err_from_is_err_and c.from_residual-in_err-subplan-in-Look.result c.from_residual-in_err-subplan-in-Look.ensures.1 in
     let node = sym (told _ _ _ c.node.ensures.value c.as_slice.ensures.items) ∙ c.in_ok-first.was in
     let looks = c.in-Look.is in
-    let same = c.node.ensures.bytes in
-    let under_yes = read_as _ _ _ (ap (λ b. bits_of b.now) same) (one_more _ _ c.push.ensures) c.in_ok-first.ensures.place c.in_err-subplan-in-Look.was refl c.subplan-in-Look.ensures.added in
+    let same = c.node.ensures.moved.bytes in
+    let under_yes = read_as _ _ _ (ap (λ b. bits_of b.now) same) (one_more _ _ c.push.ensures) c.in_ok-first.ensures.moved.place c.in_err-subplan-in-Look.was refl c.subplan-in-Look.ensures.added in
     record {
       bytes = c.subplan-in-Look.ensures.bytes ∙ same;
       added = added_look_refused _ _ _ _ _ _ _ _ c.in-Look.action c.in_ok-first.field-0-1 _ _ _ _ (rw looks at node) (p.1 ∙ ap Err p.2) under_yes;
@@ -57,9 +57,9 @@ pub returns-in_ok-subplan-in-Look : goal.returns-in_ok-subplan-in-Look
 returns-in_ok-subplan-in-Look t c =
     let node = sym (told _ _ _ c.node.ensures.value c.as_slice.ensures.items) ∙ c.in_ok-first.was in
     let looks = c.in-Look.is in
-    let same = c.node.ensures.bytes in
+    let same = c.node.ensures.moved.bytes in
     let later = c.subplan-in-Look.ensures.bytes ∙ same in
-    let under_yes = read_as _ _ _ (ap (λ b. bits_of b.now) same) (one_more _ _ c.push.ensures) c.in_ok-first.ensures.place c.in_ok-subplan-in-Look.was refl c.subplan-in-Look.ensures.added in
+    let under_yes = read_as _ _ _ (ap (λ b. bits_of b.now) same) (one_more _ _ c.push.ensures) c.in_ok-first.ensures.moved.place c.in_ok-subplan-in-Look.was refl c.subplan-in-Look.ensures.added in
     let under_no = read_as _ _ _ (ap (λ b. bits_of b.now) later) refl refl refl refl c.subplan-in-Look-2.ensures.added in
     record {
       bytes = c.subplan-in-Look-2.ensures.bytes ∙ later;

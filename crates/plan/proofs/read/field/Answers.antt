@@ -13,8 +13,7 @@ returns-in_err-read c =
     rw (p.1, p.2) (record {
       value = ap (refused_as Unread) told;
       small = tt;
-      bytes = search rules;
-      place = search rules;
+      moved = record { bytes = search rules; place = search rules };
     })
 
 pub returns : goal.returns
@@ -24,6 +23,5 @@ returns c =
     record {
       value = ap (refused_as Unread) told;
       small = search rules;
-      bytes = search rules;
-      place = search rules;
+      moved = record { bytes = search rules; place = search rules };
     }

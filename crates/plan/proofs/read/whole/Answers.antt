@@ -40,8 +40,8 @@ pub returns-in_err-subplan : goal.returns-in_err-subplan
 returns-in_err-subplan c =
     let p = err_from_is_err_and c.from_residual-in_err-subplan.result c.from_residual-in_err-subplan.ensures.1 in
     let field = edition_as c.field.ensures.value c.new-reader.ensures.bytes c.new-reader.ensures.place ∙ c.in_ok-edition.was in
-    let same = c.field.ensures.bytes ∙ c.new-reader.ensures.bytes in
-    let added = read_as 32 _ _ (ap (λ b. bits_of b.now) same) (ap length c.empty-nodes.ensures) c.in_ok-edition.ensures.place c.in_err-subplan.was c.empty-nodes.ensures c.subplan.ensures.added in
+    let same = c.field.ensures.moved.bytes ∙ c.new-reader.ensures.bytes in
+    let added = read_as 32 _ _ (ap (λ b. bits_of b.now) same) (ap length c.empty-nodes.ensures) c.in_ok-edition.ensures.moved.place c.in_err-subplan.was c.empty-nodes.ensures c.subplan.ensures.added in
     rw (p.1, p.2) (record {
       value = sym (plan_refused c.args.bytes.now _ _ _ _ _ field c.if-edition-ne1.false added);
       lawful = tt;
@@ -52,8 +52,8 @@ pub returns-in_err-finish : goal.returns-in_err-finish
 returns-in_err-finish c =
     let p = err_from_is_err_and c.from_residual-in_err-finish.result c.from_residual-in_err-finish.ensures.1 in
     let field = edition_as c.field.ensures.value c.new-reader.ensures.bytes c.new-reader.ensures.place ∙ c.in_ok-edition.was in
-    let same = c.field.ensures.bytes ∙ c.new-reader.ensures.bytes in
-    let added = read_as 32 _ _ (ap (λ b. bits_of b.now) same) (ap length c.empty-nodes.ensures) c.in_ok-edition.ensures.place c.in_ok-subplan.was c.empty-nodes.ensures c.subplan.ensures.added in
+    let same = c.field.ensures.moved.bytes ∙ c.new-reader.ensures.bytes in
+    let added = read_as 32 _ _ (ap (λ b. bits_of b.now) same) (ap length c.empty-nodes.ensures) c.in_ok-edition.ensures.moved.place c.in_ok-subplan.was c.empty-nodes.ensures c.subplan.ensures.added in
     let last = ending_as c.subplan.new.reader.place c.finish.ensures (c.subplan.ensures.bytes ∙ same) ∙ c.in_err-finish.was in
     rw (p.1, p.2) (record {
       value = sym (all_read c.args.bytes.now _ _ _ _ field c.if-edition-ne1.false added last);
@@ -64,8 +64,8 @@ returns-in_err-finish c =
 pub returns : goal.returns
 returns c =
     let field = edition_as c.field.ensures.value c.new-reader.ensures.bytes c.new-reader.ensures.place ∙ c.in_ok-edition.was in
-    let same = c.field.ensures.bytes ∙ c.new-reader.ensures.bytes in
-    let added = read_as 32 _ _ (ap (λ b. bits_of b.now) same) (ap length c.empty-nodes.ensures) c.in_ok-edition.ensures.place c.in_ok-subplan.was c.empty-nodes.ensures c.subplan.ensures.added in
+    let same = c.field.ensures.moved.bytes ∙ c.new-reader.ensures.bytes in
+    let added = read_as 32 _ _ (ap (λ b. bits_of b.now) same) (ap length c.empty-nodes.ensures) c.in_ok-edition.ensures.moved.place c.in_ok-subplan.was c.empty-nodes.ensures c.subplan.ensures.added in
     let last = ending_as c.subplan.new.reader.place c.finish.ensures (c.subplan.ensures.bytes ∙ same) ∙ c.in_ok-finish.was in
     let read = all_read c.args.bytes.now _ _ _ _ field c.if-edition-ne1.false added last in
     record {
