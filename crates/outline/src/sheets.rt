@@ -29,18 +29,13 @@ struct SetText {
 
 impl fmt::Display for SetText {
     fn fmt<W: fmt::Write>(&self, f: &mut Formatter<W>) -> fmt::Result {
-        if self.set == 0 {
+        let mut members = (0..64).filter(|literal| contains(self.set, *literal));
+        let Some(literal) = members.next() else {
             return f.write_str("none");
-        }
-        let mut first = true;
-        for literal in 0..64 {
-            if contains(self.set, literal) {
-                if !first {
-                    f.write_str(", ")?;
-                }
-                first = false;
-                write!(f, "{}", LiteralText { literal })?;
-            }
+        };
+        write!(f, "{}", LiteralText { literal })?;
+        for literal in members {
+            write!(f, ", {}", LiteralText { literal })?;
         }
         Ok(())
     }

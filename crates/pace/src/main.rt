@@ -3,6 +3,10 @@
 // Standard input: how often, in two bytes, and a packed domain of 16 actions.
 #![tactic(auto)]
 
+ghost use Rattle.std.specs.Prelude.{◌≡◌, ◌&&◌, nat_lt, is_ok, if◌then◌else◌};
+ghost use Rattle.literals.specs.Tables.{empty};
+ghost use Rattle.reasoner.specs.Asking.{question, answer_to};
+
 use bits::reader::Reader;
 use bits::width::Width;
 use domain::record::Domain;
@@ -32,22 +36,35 @@ fn main(rt: HostRuntime) -> io::Result<()> {
     for fluent in 0..32 {
         told.tell(32, 2 * fluent);
     }
-    let history = History {};
-    let worlds = AllWorlds {};
-    let mut table = Table::empty();
-    let mut largest = worlds.largest();
-    if domain.fluents() > largest {
-        largest = history.largest();
-        for _ in 0..times {
-            let _ = history.ask(&domain, &orders, &told, &mut table);
-        }
+    let largest = AllWorlds {}.largest();
+    let (largest, table) = if domain.fluents() > largest {
+        let table = asked(&History {}, times, &domain, &orders, &told);
+        (History {}.largest(), table)
     } else {
-        for _ in 0..times {
-            let _ = worlds.ask(&domain, &orders, &told, &mut table);
-        }
-    }
+        (
+            largest,
+            asked(&AllWorlds {}, times, &domain, &orders, &told),
+        )
+    };
     let first = table.at(0);
     println!(rt;
         "a reasoner for up to {largest} fluents, asked {times} times; known at first: {first:x}"
     )
+}
+
+// What a reasoner shows that is asked so many times; where it is not asked, or refuses the domain, nothing.
+fn asked<R: Reasoner>(
+    reasoner: &R,
+    times: u16,
+    domain: &Domain,
+    orders: &Orders,
+    told: &Table,
+) -> Table
+    ensures { let asked = question domain.now orders.now told.now in result.sets ≡ (if nat_lt 0 times && is_ok (answer_to (R.mind reasoner.now) asked) then (R.mind reasoner.now).meaning asked else empty) }
+{
+    let mut table = Table::empty();
+    for _ in 0..times {
+        let _ = reasoner.ask(domain, orders, told, &mut table);
+    }
+    table
 }
