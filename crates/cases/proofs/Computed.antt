@@ -4,6 +4,7 @@ use Rattle.std.specs.Borrow.{Bor}
 use Rattle.std.specs.List.{list_all}
 use lib.Count.{ones, count_trailing_zeros}
 use Rattle.std.proofs.lemmas.List.Sums.{AllPass-from_list_all}
+use Rattle.std.proofs.lemmas.Bool.Decides.{nat_tests}
 use Rattle.std.proofs.lemmas.Bool.{cases_Bool, and_parts, both_ways, not-true, leb-true, eqb-true, eqb-false}
 use Rattle.bits.specs.Bits.{bits_of, numeral, number}
 use Rattle.bits.specs.Fields.{number_at, fill_end}
@@ -138,18 +139,13 @@ module _ (q : Question) (asked : Askable q) where
   as_worlds false h = (shows_true q asked).if_full ((same_decides (in_all_worlds q) (full q.sheet.fluents (latest q))).0 h)
 
 within : (c : Case) → is_within c ≡ true → Within c
-within c h =
-    let (bytes, rest) = and_parts (leb (length c.domain.now) 11) (leb (length c.orders.now) 2 && (leb (length c.told.now) 2 && (leb (length c.rows.now) 3 && list_all (all_moments c) c.rows.now))) h in
-    let (orders, later) = and_parts (leb (length c.orders.now) 2) (leb (length c.told.now) 2 && (leb (length c.rows.now) 3 && list_all (all_moments c) c.rows.now)) rest in
-    let (facts, last) = and_parts (leb (length c.told.now) 2) (leb (length c.rows.now) 3 && list_all (all_moments c) c.rows.now) later in
-    let (fluents, moments) = and_parts (leb (length c.rows.now) 3) (list_all (all_moments c) c.rows.now) last in
-    record {
-      bytes = leb-true (length c.domain.now) 11 bytes;
-      orders = leb-true (length c.orders.now) 2 orders;
-      facts = leb-true (length c.told.now) 2 facts;
-      fluents = leb-true (length c.rows.now) 3 fluents;
-      moments = λ k row low. eqb-true _ _ (AllPass-from_list_all (all_moments c) c.rows.now moments k row low);
-    }
+within c h = record {
+  bytes = grind (arith, nat_tests);
+  orders = grind (arith, nat_tests);
+  facts = grind (arith, nat_tests);
+  fluents = grind (arith, nat_tests);
+  moments = λ k row low. eqb-true _ _ (AllPass-from_list_all (all_moments c) c.rows.now (grind (arith, nat_tests)) k row low);
+}
 
 module _ (c : Case) (d : Sheet) where
   abbrev q : Question
@@ -157,11 +153,9 @@ module _ (c : Case) (d : Sheet) where
 
   pub stands : read_domain c.domain.now ≡ Ok d → domain_fits c d ≡ true → marks_shown c (closure q) ≡ true → worlds_as c.agreeing q ≡ true → Stands c
   stands decoded fits marks worlds =
-      let (inside, sound) = and_parts (is_within c) (lawful d && eqb d.fluents (length c.rows.now)) fits in
-      let (lawful_sheet, fluents) = and_parts (lawful d) (eqb d.fluents (length c.rows.now)) sound in
-      let small = within c inside in
+      let small = within c (grind (arith, nat_tests)) in
       let asked : Askable q = record {
-        lawful_sheet = lawful_sheet;
+        lawful_sheet = grind (arith, nat_tests);
         few = omega (arith, small.orders);
         table = told_table c.told.now empty (record { long = length-empty; small = empty_sets });
       } in
@@ -169,7 +163,7 @@ module _ (c : Case) (d : Sheet) where
         within = small;
         sheet = d;
         decoded = decoded;
-        all_fluents = eqb-true d.fluents (length c.rows.now) fluents;
+        all_fluents = grind (arith, nat_tests);
         by_rules = λ f t low soon.
             as_marked q asked t f (mark_of c t f)
             (below_each (suc (length c.orders.now)) (λ u. shown_as (closure q) u f (mark_of c u f))

@@ -4,8 +4,8 @@ ghost use Rattle.cases.specs.Cases.{AllStand};
 
 use literals::set::Literal;
 
-// A packed domain, orders, told facts (moment and literal), and whether each fluent is known true or false at each moment: one row
-// for each fluent, with a mark for each moment.
+// A packed domain, orders, told facts (moment and literal), and what is known: a row for each fluent, with a mark for each moment. A mark
+// says that the fluent is known true or known false; `None` is neither.
 #[derive(Clone, Copy)]
 pub struct Case {
     pub domain: &'static [u8],

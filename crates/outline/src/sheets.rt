@@ -95,28 +95,22 @@ pub struct Sheet<'a> {
 
 impl fmt::Display for Sheet<'_> {
     fn fmt<W: fmt::Write>(&self, f: &mut Formatter<W>) -> fmt::Result {
-        let fluents = self.domain.fluents();
-        let actions = self.domain.actions();
+        let domain = self.domain;
+        let fluents = domain.fluents();
+        let actions = domain.actions();
         writeln!(f, "domain: fluents {fluents}, actions {actions}")?;
         let initial = SetText {
-            set: self.domain.initial(),
+            set: domain.initial(),
         };
         writeln!(f, "initially {initial}")?;
-        for group in self.domain.groups() {
+        for group in domain.groups() {
             let group = SetText { set: *group };
             writeln!(f, "one of {group}")?;
         }
         for action in 0..actions {
-            let domain = self.domain;
             write!(f, "{}", ActionText { domain, action })?;
         }
-        write!(
-            f,
-            "{}",
-            Goals {
-                domain: self.domain
-            }
-        )
+        write!(f, "{}", Goals { domain })
     }
 }
 

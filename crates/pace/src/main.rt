@@ -20,12 +20,13 @@ use worlds::worlds::AllWorlds;
 
 fn main(rt: HostRuntime) -> io::Result<()> {
     let mut buffer = [0u8; 4096];
+    // One read, and not the loop of `account`: sharing that would take one more public function in a library.
     let count = rt.stdin().read(&mut buffer)?;
-    let mut reader = Reader::new(&buffer[0..count]);
-    let Ok((times, _)) = reader.field(Width::SIXTEEN) else {
+    let input = &buffer[..count];
+    let Ok((times, _)) = Reader::new(input).field(Width::SIXTEEN) else {
         return println!(rt; "no count");
     };
-    let Ok(domain) = Domain::read(&buffer[2..count]) else {
+    let Ok(domain) = Domain::read(&input[2..]) else {
         return println!(rt; "no domain");
     };
     let mut orders = Orders::none();
@@ -36,15 +37,14 @@ fn main(rt: HostRuntime) -> io::Result<()> {
     for fluent in 0..32 {
         told.tell(32, 2 * fluent);
     }
-    let largest = AllWorlds {}.largest();
-    let (largest, table) = if domain.fluents() > largest {
-        let table = asked(&History {}, times, &domain, &orders, &told);
-        (History {}.largest(), table)
+    let history = History {};
+    let worlds = AllWorlds {};
+    let (largest, table) = if domain.fluents() > worlds.largest() {
+        let table = asked(&history, times, &domain, &orders, &told);
+        (history.largest(), table)
     } else {
-        (
-            largest,
-            asked(&AllWorlds {}, times, &domain, &orders, &told),
-        )
+        let table = asked(&worlds, times, &domain, &orders, &told);
+        (worlds.largest(), table)
     };
     let first = table.at(0);
     println!(rt;
