@@ -1,6 +1,10 @@
 -- A case stands where a test that computes says so. Assumes nothing.
-use Rattle.std.proofs.Common.{◌≡◌, ℕ, zero, suc, ◌+◌, ◌*◌, ◌<◌, ◌≤◌, Bool, true, false, cond, not, ◌&&◌, eqb, leb, List, [], ◌∷◌, take, Ok, Err, Result, sym, refl, ap, ◌∙◌, subst, ⊎_elim, arith, length-set, length-take}
+use Rattle.std.proofs.Common.{◌≡◌, ℕ, zero, suc, ◌+◌, ◌*◌, ◌<◌, ◌≤◌, Bool, true, false, cond, not, ◌&&◌, eqb, leb, List, [], ◌∷◌, length, Some, None, Ok, Err, Option, Result, sym, refl, ap, ◌∙◌, subst, ⊎_elim, arith, length-set}
+use Rattle.std.specs.Borrow.{Bor}
+use Rattle.std.specs.List.{list_all}
 use lib.Count.{ones, count_trailing_zeros}
+use Rattle.std.proofs.lemmas.List.Sums.{AllPass-from_list_all}
+use Rattle.std.proofs.lemmas.Bool.Decides.{nat_tests}
 use Rattle.std.proofs.lemmas.Bool.{cases_Bool, and_parts, both_ways, not-true, leb-true, eqb-true, eqb-false}
 use Rattle.bits.specs.Bits.{bits_of, numeral, number}
 use Rattle.bits.specs.Fields.{number_at, fill_end}
@@ -17,7 +21,7 @@ use Rattle.knowledge.specs.Questions.{Question, latest, IsTable, Askable}
 use Rattle.knowledge.specs.Rules.{Known}
 use Rattle.knowledge.specs.Sweeps.{left_over, all_grouped, may_come, all_worked, passed, sweep, sweeps, room, told_from, start, closure}
 use Rattle.knowledge.proofs.Laws.{closure_known, known_closure, shows_true}
-use Rattle.cases.specs.Cases.{with_told, question_of, Marked, mark_of, NoWorld, Stands}
+use Rattle.cases.specs.Cases.{with_told, question_of, Marked, mark_of, NoWorld, Within, Stands}
 use Rattle.cases.specs.declared.cases.Case.{Case}
 
 -- ---- tests
@@ -28,21 +32,26 @@ each_below zero test = true
 each_below (suc n) test = test n && each_below n test
 
 -- a mark is as a table shows it
-abbrev pub shown_as : List ℕ → ℕ → ℕ → ℕ → Bool
-shown_as sets t f mark =
-    cond (eqb mark 49) (shows sets t (2 * f + 1))
-    (cond (eqb mark 48) (shows sets t (2 * f))
-    (cond (eqb mark 63) (not (shows sets t (2 * f + 1)) && not (shows sets t (2 * f))) false))
+abbrev pub shown_as : List ℕ → ℕ → ℕ → Option (Option Bool) → Bool
+shown_as sets t f (Some (Some true)) = shows sets t (2 * f + 1)
+shown_as sets t f (Some (Some false)) = shows sets t (2 * f)
+shown_as sets t f (Some None) = not (shows sets t (2 * f + 1)) && not (shows sets t (2 * f))
+shown_as sets t f None = false
 
 abbrev pub marks_shown : Case → List ℕ → Bool
-marks_shown c sets = each_below c.fluents (λ f. each_below (suc c.moments) (λ t. shown_as sets t f (mark_of c t f)))
+marks_shown c sets = each_below (length c.rows.now) (λ f. each_below (suc (length c.orders.now)) (λ t. shown_as sets t f (mark_of c t f)))
 
 -- whether a world agrees is as a case says
 abbrev pub worlds_as : Bool → Question → Bool
 worlds_as agreeing q = let none = same (in_all_worlds q) (full q.sheet.fluents (latest q)) in cond agreeing (not none) none
 
-abbrev pub counts-within : Case → Bool
-counts-within c = leb c.bytes 11 && (leb c.moments 2 && (leb c.facts 2 && leb c.fluents 3))
+-- a row has a mark for each moment of a case
+abbrev pub all_moments : Case → Bor (List (Option Bool)) → Bool
+all_moments c row = eqb (length row.now) (length c.orders.now + 1)
+
+abbrev pub is_within : Case → Bool
+is_within c =
+    leb (length c.domain.now) 11 && (leb (length c.orders.now) 2 && (leb (length c.told.now) 2 && (leb (length c.rows.now) 3 && list_all (all_moments c) c.rows.now)))
 
 -- a table after k sweeps
 unfoldable pub swept : Sheet → List ℕ → ℕ → List ℕ → List ℕ
@@ -65,7 +74,7 @@ abbrev pub answers : Case → Question → Bool
 answers c q = marks_found c q (four q) && worlds_as c.agreeing q
 
 abbrev pub domain_fits : Case → Sheet → Bool
-domain_fits c d = counts-within c && (lawful d && eqb d.fluents c.fluents)
+domain_fits c d = is_within c && (lawful d && eqb d.fluents (length c.rows.now))
 
 -- ---- what they show
 
@@ -114,19 +123,13 @@ module _ (q : Question) (asked : Askable q) where
   hidden : (t l : ℕ) → not (shows (closure q) t l) ≡ true → Known q t l → ⊥
   hidden t l h known = both_ways (shows (closure q) t l) (not-true (shows (closure q) t l) h) (known_closure q asked t l known)
 
-  as_marked : (t f mark : ℕ) → shown_as (closure q) t f mark ≡ true → Marked q t f mark
-  as_marked t f mark =
-      ⊎_elim (λ (e : eqb mark 49 ≡ true). rw e (closure_known q asked t (2 * f + 1)))
-      (λ (e : eqb mark 49 ≡ false). rw e
-      (⊎_elim (λ (k : eqb mark 48 ≡ true). rw k (closure_known q asked t (2 * f)))
-      (λ (k : eqb mark 48 ≡ false). rw k
-      (⊎_elim (λ (j : eqb mark 63 ≡ true). rw j
-      (λ h. let parts = and_parts (not (shows (closure q) t (2 * f + 1))) (not (shows (closure q) t (2 * f))) h in
-      (hidden t (2 * f + 1) parts.0, hidden t (2 * f) parts.1)))
-      (λ (j : eqb mark 63 ≡ false). rw j (λ h. both_ways false refl h))
-      (cases_Bool (eqb mark 63))))
-      (cases_Bool (eqb mark 48))))
-      (cases_Bool (eqb mark 49))
+  as_marked : (t f : ℕ) (mark : Option (Option Bool)) → shown_as (closure q) t f mark ≡ true → Marked q t f mark
+  as_marked t f (Some (Some true)) h = closure_known q asked t (2 * f + 1) h
+  as_marked t f (Some (Some false)) h = closure_known q asked t (2 * f) h
+  as_marked t f (Some None) h =
+      let parts = and_parts (not (shows (closure q) t (2 * f + 1))) (not (shows (closure q) t (2 * f))) h in
+      (hidden t (2 * f + 1) parts.0, hidden t (2 * f) parts.1)
+  as_marked t f None h = both_ways false refl h
 
   as_worlds : (agreeing : Bool) → worlds_as agreeing q ≡ true → cond agreeing (NoWorld q → ⊥) (NoWorld q)
   as_worlds true h =
@@ -135,32 +138,36 @@ module _ (q : Question) (asked : Askable q) where
       λ no_World. both_ways none (not-true none h) (decides.1 ((shows_true q asked).none_agrees no_World))
   as_worlds false h = (shows_true q asked).if_full ((same_decides (in_all_worlds q) (full q.sheet.fluents (latest q))).0 h)
 
+within : (c : Case) → is_within c ≡ true → Within c
+within c h = record {
+  bytes = grind (arith, nat_tests);
+  orders = grind (arith, nat_tests);
+  facts = grind (arith, nat_tests);
+  fluents = grind (arith, nat_tests);
+  moments = λ k row low. eqb-true _ _ (AllPass-from_list_all (all_moments c) c.rows.now (grind (arith, nat_tests)) k row low);
+}
+
 module _ (c : Case) (d : Sheet) where
   abbrev q : Question
   q = question_of d c
 
-  pub stands : read_domain (take c.bytes c.domain) ≡ Ok d → domain_fits c d ≡ true → marks_shown c (closure q) ≡ true → worlds_as c.agreeing q ≡ true → Stands c
+  pub stands : read_domain c.domain.now ≡ Ok d → domain_fits c d ≡ true → marks_shown c (closure q) ≡ true → worlds_as c.agreeing q ≡ true → Stands c
   stands decoded fits marks worlds =
-      let (inside, sound) = and_parts (counts-within c) (lawful d && eqb d.fluents c.fluents) fits in
-      let (lawful_sheet, fluents) = and_parts (lawful d) (eqb d.fluents c.fluents) sound in
-      let (bytes, rest) = and_parts (leb c.bytes 11) (leb c.moments 2 && (leb c.facts 2 && leb c.fluents 3)) inside in
-      let (moments, later) = and_parts (leb c.moments 2) (leb c.facts 2 && leb c.fluents 3) rest in
-      let (facts, last) = and_parts (leb c.facts 2) (leb c.fluents 3) later in
-      let few : c.moments ≤ 2 = leb-true c.moments 2 moments in
+      let small = within c (grind (arith, nat_tests)) in
       let asked : Askable q = record {
-        lawful_sheet = lawful_sheet;
-        few = omega (arith, length-take c.moments c.orders, few);
-        table = told_table (take c.facts c.told) empty (record { long = length-empty; small = empty_sets });
+        lawful_sheet = grind (arith, nat_tests);
+        few = omega (arith, small.orders);
+        table = told_table c.told.now empty (record { long = length-empty; small = empty_sets });
       } in
       record {
-        within = record { bytes = leb-true c.bytes 11 bytes; moments = few; facts = leb-true c.facts 2 facts; fluents = leb-true c.fluents 3 last };
+        within = small;
         sheet = d;
         decoded = decoded;
-        all_fluents = eqb-true d.fluents c.fluents fluents;
+        all_fluents = grind (arith, nat_tests);
         by_rules = λ f t low soon.
             as_marked q asked t f (mark_of c t f)
-            (below_each (suc c.moments) (λ u. shown_as (closure q) u f (mark_of c u f))
-            (below_each c.fluents (λ g. each_below (suc c.moments) (λ u. shown_as (closure q) u g (mark_of c u g))) marks f low)
+            (below_each (suc (length c.orders.now)) (λ u. shown_as (closure q) u f (mark_of c u f))
+            (below_each (length c.rows.now) (λ g. each_below (suc (length c.orders.now)) (λ u. shown_as (closure q) u g (mark_of c u g))) marks f low)
             t (omega (arith, soon)));
         by_worlds = as_worlds q asked c.agreeing worlds;
       }
@@ -168,7 +175,7 @@ module _ (c : Case) (d : Sheet) where
 -- ---- all that is computed
 
 abbrev pub reading : Case → Result Sheet Refusal
-reading c = read_domain (take c.bytes c.domain)
+reading c = read_domain c.domain.now
 
 abbrev pub as_read : Case → Result Sheet Refusal → Bool
 as_read c (Ok d) = domain_fits c d && answers c (question_of d c)

@@ -1,5 +1,5 @@
 -- Exactly one of a and b, and exactly one of a and not b: nothing is known, and no world agrees. Assumes nothing.
-use Rattle.std.proofs.Common.{◌≡◌, ℕ, ◌+◌, ◌^◌, true, false, cond, ◌&&◌, eqb, List, [], ◌∷◌, set, sym, refl, ap, ◌∙◌, subst, arith}
+use Rattle.std.proofs.Common.{◌≡◌, ℕ, ◌+◌, ◌^◌, true, false, cond, ◌&&◌, eqb, List, [], ◌∷◌, set, Ok, sym, refl, ap, ◌∙◌, subst, arith}
 use lib.Bits.{bit_or}
 use lib.Count.{ones, ones_cat, count_trailing_zeros}
 use Rattle.literals.specs.Literals.{single, place, rotated, of_first, without, opposites}
@@ -11,28 +11,14 @@ use Rattle.knowledge.specs.Questions.{Question}
 use Rattle.knowledge.specs.Sweeps.{left_over, grouped, all_grouped, passed, sweep, room, told_from, start, closure}
 use Rattle.cases.specs.Cases.{question_of, Stands}
 use Rattle.cases.specs.declared.cases.Case.{Case}
-use Rattle.cases.proofs.Computed.{opened, worked_out, counted, swept, settled, marks_shown, stands}
+use Rattle.cases.proofs.Computed.{worked_out, counted, swept, settled, domain_fits, marks_shown, worlds_as, reading, stands}
 
 abbrev pairs : Sheet
 pairs =
     record { fluents = 2; initial = 0; groups = 3 ∷ 8589934593 ∷ []; actions = record { needs = 0; deed = works [] } ∷ []; strong = 0; weak = 0 }
 
-abbrev case_8 : Case
-case_8 =
-    record {
-      domain = 16 ∷ 128 ∷ 4 ∷ 64 ∷ 134 ∷ 64 ∷ 132 ∷ 0 ∷ 0 ∷ 0 ∷ 0 ∷ [];
-      bytes = 9;
-      orders = 0 ∷ 0 ∷ [];
-      moments = 0;
-      told = (0, 0) ∷ (0, 0) ∷ [];
-      facts = 0;
-      rows = (63 ∷ 0 ∷ 0 ∷ []) ∷ (63 ∷ 0 ∷ 0 ∷ []) ∷ (0 ∷ 0 ∷ 0 ∷ []) ∷ [];
-      fluents = 2;
-      agreeing = false;
-    }
-
 abbrev q : Question
-q = question_of pairs case_8
+q = record { sheet = pairs; orders = []; told = empty }
 
 -- ---- counts of members
 
@@ -79,10 +65,6 @@ none_known : closure q ≡ empty
 unfolding closure start told_from filled of_first swept
 none_known = settled pairs [] 0 (room (start q)) (start q) (omega arith) resting
 
-marks : marks_shown case_8 empty ≡ true
-unfolding worked_out
-marks = refl
-
 -- ---- no state agrees
 
 neither_one : agrees q 12884901888 ≡ false
@@ -110,7 +92,9 @@ unfolding in_all_worlds narrowed_all single place
 none_agrees =
     left_as_was 3 _ both_one ∙ left_as_was 4294967298 _ only_b ∙ left_as_was 8589934593 _ only_a ∙ left_as_was 12884901888 _ neither_one
 
-pub stands_8 : Stands case_8
-unfolding opened worked_out counted
-stands_8 =
-    stands case_8 pairs refl refl (subst (λ sets. marks_shown case_8 sets ≡ true) (sym none_known) marks) ((same_decides (in_all_worlds q) (full 2 0)).1 none_agrees)
+pub pairs_stand : (c : Case) → reading c ≡ Ok pairs → domain_fits c pairs ≡ true → question_of pairs c ≡ q → marks_shown c empty ≡ true → c.agreeing ≡ false → Stands c
+pairs_stand c decoded fits asked marks none =
+    stands c pairs decoded fits
+    (subst (λ q. marks_shown c (closure q) ≡ true) (sym asked) (subst (λ sets. marks_shown c sets ≡ true) (sym none_known) marks))
+    (subst (λ q. worlds_as c.agreeing q ≡ true) (sym asked)
+    (subst (λ a. worlds_as a q ≡ true) (sym none) ((same_decides (in_all_worlds q) (full 2 0)).1 none_agrees)))

@@ -1,65 +1,21 @@
--- The cases that are wholly computed, each as it stands in the code. Assumes nothing.
-use Rattle.std.proofs.Common.{ℕ, true, List, [], ◌∷◌, refl}
-use Rattle.cases.specs.Cases.{Stands}
+-- Where each case of a table stands, so does each that is taken from it. Assumes nothing.
+use Rattle.std.proofs.Common.{ℕ, ◌<◌, zero, suc, List, [], ◌∷◌, Some, None, Option, length, sym, subst, arith}
+use Rattle.std.specs.Borrow.{Bor}
+use Rattle.std.specs.Option.{option_copied}
+use Rattle.std.specs.Slice.{IsItemAt}
+use Rattle.std.specs.List.{slice_index_or}
+use Rattle.cases.specs.Cases.{Stands, AllStand}
 use Rattle.cases.specs.declared.cases.Case.{Case}
-use Rattle.cases.proofs.Computed.{opened, worked_out, counted, case_stands}
 
-abbrev worked : (orders : List ℕ) (moments : ℕ) (told : List (ℕ × ℕ)) (facts : ℕ) (rows : List (List ℕ)) → Case
-worked orders moments told facts rows =
-    record {
-      domain = 16 ∷ 136 ∷ 32 ∷ 0 ∷ 4 ∷ 134 ∷ 12 ∷ 0 ∷ 2 ∷ 8 ∷ 0 ∷ [];
-      bytes = 10;
-      orders = orders;
-      moments = moments;
-      told = told;
-      facts = facts;
-      rows = rows;
-      fluents = 2;
-      agreeing = true;
-    }
+abbrev pub EachStands : List Case → Type 0
+EachStands [] = Unit
+EachStands (c ∷ cases) = Stands c × EachStands cases
 
-abbrev gates : (told : List (ℕ × ℕ)) (rows : List (List ℕ)) → Case
-gates told rows =
-    record {
-      domain = 17 ∷ 8 ∷ 32 ∷ 0 ∷ 4 ∷ 134 ∷ 8 ∷ 4 ∷ 138 ∷ 8 ∷ 0 ∷ [];
-      bytes = 11;
-      orders = 0 ∷ 1 ∷ [];
-      moments = 2;
-      told = told;
-      facts = 1;
-      rows = rows;
-      fluents = 3;
-      agreeing = true;
-    }
+one_stands : (cases : List Case) → EachStands cases → (n : ℕ) (c : Case) → n < length cases → Stands (slice_index_or cases n c)
+one_stands [] each n c low = absurd (omega (arith, low))
+one_stands (d ∷ cases) each zero c low = each.0
+one_stands (d ∷ cases) each (suc n) c low = one_stands cases each.1 n c (omega (arith, low))
 
-pub stands_0 : Stands (worked (0 ∷ 1 ∷ []) 2 ((1, 1) ∷ (0, 0) ∷ []) 1 ((48 ∷ 49 ∷ 49 ∷ []) ∷ (49 ∷ 49 ∷ 49 ∷ []) ∷ (0 ∷ 0 ∷ 0 ∷ []) ∷ []))
-unfolding opened worked_out counted
-stands_0 = case_stands _ refl
-
-pub stands_1 : Stands (worked (0 ∷ 1 ∷ []) 2 ((1, 0) ∷ (0, 0) ∷ []) 1 ((48 ∷ 48 ∷ 48 ∷ []) ∷ (48 ∷ 48 ∷ 48 ∷ []) ∷ (0 ∷ 0 ∷ 0 ∷ []) ∷ []))
-unfolding opened worked_out counted
-stands_1 = case_stands _ refl
-
-pub stands_2 : Stands (worked (0 ∷ 0 ∷ []) 1 ((1, 1) ∷ (0, 0) ∷ []) 1 ((48 ∷ 49 ∷ 0 ∷ []) ∷ (49 ∷ 49 ∷ 0 ∷ []) ∷ (0 ∷ 0 ∷ 0 ∷ []) ∷ []))
-unfolding opened worked_out counted
-stands_2 = case_stands _ refl
-
-pub stands_3 : Stands (worked (0 ∷ 0 ∷ []) 1 ((0, 3) ∷ (0, 0) ∷ []) 1 ((48 ∷ 49 ∷ 0 ∷ []) ∷ (49 ∷ 49 ∷ 0 ∷ []) ∷ (0 ∷ 0 ∷ 0 ∷ []) ∷ []))
-unfolding opened worked_out counted
-stands_3 = case_stands _ refl
-
-pub stands_4 : Stands (worked (0 ∷ 0 ∷ []) 1 ((1, 1) ∷ (0, 3) ∷ []) 2 ((48 ∷ 49 ∷ 0 ∷ []) ∷ (49 ∷ 49 ∷ 0 ∷ []) ∷ (0 ∷ 0 ∷ 0 ∷ []) ∷ []))
-unfolding opened worked_out counted
-stands_4 = case_stands _ refl
-
-pub stands_5 : Stands (worked (0 ∷ 0 ∷ []) 1 ((0, 0) ∷ (0, 0) ∷ []) 0 ((48 ∷ 63 ∷ 0 ∷ []) ∷ (63 ∷ 63 ∷ 0 ∷ []) ∷ (0 ∷ 0 ∷ 0 ∷ []) ∷ []))
-unfolding opened worked_out counted
-stands_5 = case_stands _ refl
-
-pub stands_6 : Stands (gates ((2, 1) ∷ (0, 0) ∷ []) ((48 ∷ 63 ∷ 49 ∷ []) ∷ (63 ∷ 63 ∷ 63 ∷ []) ∷ (63 ∷ 63 ∷ 63 ∷ []) ∷ []))
-unfolding opened worked_out counted
-stands_6 = case_stands _ refl
-
-pub stands_7 : Stands (gates ((2, 0) ∷ (0, 0) ∷ []) ((48 ∷ 48 ∷ 48 ∷ []) ∷ (48 ∷ 48 ∷ 48 ∷ []) ∷ (48 ∷ 48 ∷ 48 ∷ []) ∷ []))
-unfolding opened worked_out counted
-stands_7 = case_stands _ refl
+pub taken_stands : (cases : List Case) → EachStands cases → (n : ℕ) (taken : Option (Bor Case)) → IsItemAt cases n taken → AllStand (option_copied taken)
+taken_stands cases each n None item = tt
+taken_stands cases each n (Some c) item = subst Stands (sym item.1) (one_stands cases each n c.now item.3.0)

@@ -2,7 +2,7 @@
 #![tactic(auto)]
 
 ghost use Rattle.std.specs.Prelude.{◌≡◌};
-ghost use Rattle.input.specs.Split.{after_length, split_input, bytes_of};
+ghost use Rattle.input.specs.Split.{split_input, bytes_of};
 
 use bits::reader::Reader;
 use bits::refusal::Refusal;
@@ -13,18 +13,11 @@ pub fn split(bytes: &[u8]) -> Result<(&[u8], &[u8]), Refusal>
     ensures { bytes_of result ≡ split_input bytes.now }
 {
     let (length, _) = Reader::new(bytes).field(Width::SIXTEEN)?;
-    parts(bytes, length)
-}
-
-// The bytes after the length, cut where the domain ends.
-fn parts(bytes: &[u8], length: u16) -> Result<(&[u8], &[u8]), Refusal>
-    ensures { bytes_of result ≡ after_length bytes.now length 16 }
-{
     let end = 2 + usize::from(length);
-    if end > bytes.len() {
+    let Some((front, plan)) = bytes.split_at_checked(end) else {
         return Err(Refusal::Ended {
             place: 8 * bytes.len() as u128,
         });
-    }
-    Ok((&bytes[2..end], &bytes[end..]))
+    };
+    Ok((&front[2..], plan))
 }

@@ -1,5 +1,5 @@
 // Plans as text.
-ghost use Rattle.std.specs.Prelude.{◌≤◌, IfOk};
+ghost use Rattle.std.specs.Prelude.{◌≡◌, ◌≤◌};
 
 use plan::node::Node;
 use plan::record::Plan;
@@ -19,40 +19,57 @@ impl fmt::Display for Outline<'_> {
         let ends = self.plan.ends();
         let longest = self.plan.longest();
         writeln!(f, "plan: nodes {count}, ends {ends}, longest way {longest}")?;
-        subplan(f, nodes, 0, 0, "", 0)?;
-        Ok(())
+        let mut lines = Lines {
+            nodes,
+            at: 0,
+            ends: 0,
+        };
+        lines.subplan(f, 0, "")
     }
 }
 
-// The plan at an index, under so many looks and after so many ends; the index after it and the ends up to there. The mark names the way that the plan is on.
-fn subplan<W: fmt::Write>(
-    f: &mut Formatter<W>,
-    nodes: &[Node],
+// The nodes of a plan, the index of the next one to print, and how many ends are before it.
+#[derive(Clone, Copy)]
+struct Lines<'a> {
+    nodes: &'a [Node],
     at: usize,
-    looks: usize,
-    mark: &str,
     ends: usize,
-) -> Result<(usize, usize), fmt::Error>
-    ensures { IfOk result (λ next. at ≤ next.0) }
-{
-    if at >= nodes.len() {
-        return Ok((at, ends));
-    }
-    let margin = Margin { looks, mark };
-    match nodes[at] {
-        Node::End => {
-            writeln!(f, "{margin}{at} end {ends}")?;
-            Ok((at + 1, ends.saturating_add(1)))
-        }
-        Node::Order { action } => {
-            writeln!(f, "{margin}{at} order {action}")?;
-            subplan(f, nodes, at + 1, looks, "", ends)
-        }
-        Node::Look { action } => {
-            writeln!(f, "{margin}{at} look {action}")?;
-            let below = looks.saturating_add(1);
-            let (middle, ends) = subplan(f, nodes, at + 1, below, "yes: ", ends)?;
-            subplan(f, nodes, middle, below, "no:  ", ends)
+}
+
+impl Lines<'_> {
+    // Prints the plan whose first node is next, under so many looks. The mark names the way that the plan is on.
+    fn subplan<W: fmt::Write>(
+        &mut self,
+        f: &mut Formatter<W>,
+        looks: usize,
+        mark: &str,
+    ) -> fmt::Result
+        ensures nodes { self.new.nodes ≡ self.old.nodes }
+        ensures onward { self.old.at ≤ self.new.at }
+    {
+        let at = self.at;
+        let Some(node) = self.nodes.get(at) else {
+            return Ok(());
+        };
+        let margin = Margin { looks, mark };
+        self.at += 1;
+        match node {
+            Node::End => {
+                let end = self.ends;
+                // Counts saturate here: a bound on them would have to be said of every call, and no text depends on it.
+                self.ends = end.saturating_add(1);
+                writeln!(f, "{margin}{at} end {end}")
+            }
+            Node::Order { action } => {
+                writeln!(f, "{margin}{at} order {action}")?;
+                self.subplan(f, looks, "")
+            }
+            Node::Look { action } => {
+                writeln!(f, "{margin}{at} look {action}")?;
+                let below = looks.saturating_add(1);
+                self.subplan(f, below, "yes: ")?;
+                self.subplan(f, below, "no:  ")
+            }
         }
     }
 }

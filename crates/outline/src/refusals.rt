@@ -2,29 +2,39 @@
 use std::fmt;
 use std::fmt::Formatter;
 
-// A refused input.
+// A refused input, domain or plan.
 #[derive(Clone, Copy)]
-pub struct InputRefused {
-    pub refusal: bits::refusal::Refusal,
+pub enum Refused {
+    Input(bits::refusal::Refusal),
+    Domain(domain::refusal::Refusal),
+    Plan(plan::refusal::Refusal),
 }
 
-impl fmt::Display for InputRefused {
+impl fmt::Display for Refused {
     fn fmt<W: fmt::Write>(&self, f: &mut Formatter<W>) -> fmt::Result {
-        let report = self.refusal.report();
-        writeln!(f, "input refused {report}")?;
-        f.write_str(
-            "The input ends before the domain does: first come two bytes with the domain's length, then the domain, then the plan.\n",
-        )
+        let (what, report) = match self {
+            Refused::Input(refusal) => ("input", refusal.report()),
+            Refused::Domain(refusal) => ("domain", refusal.report()),
+            Refused::Plan(refusal) => ("plan", refusal.report()),
+        };
+        writeln!(f, "{what} refused {report}")?;
+        match self {
+            Refused::Input(_) => f.write_str(
+                "The input ends before the domain does: first come two bytes with the domain's length, then the domain, then the plan.\n",
+            ),
+            Refused::Domain(refusal) => write!(f, "{}", DomainFault { refusal: *refusal }),
+            Refused::Plan(refusal) => write!(f, "{}", PlanFault { refusal: *refusal }),
+        }
     }
 }
 
-// Refused bytes, and what they should have been.
+// What bytes should have been.
 #[derive(Clone, Copy)]
-struct Unread {
+struct BytesFault {
     refusal: bits::refusal::Refusal,
 }
 
-impl fmt::Display for Unread {
+impl fmt::Display for BytesFault {
     fn fmt<W: fmt::Write>(&self, f: &mut Formatter<W>) -> fmt::Result {
         match self.refusal {
             bits::refusal::Refusal::Ended { place } => writeln!(
@@ -39,18 +49,16 @@ impl fmt::Display for Unread {
     }
 }
 
-// A refused domain.
+// What is wrong with a domain.
 #[derive(Clone, Copy)]
-pub struct DomainRefused {
-    pub refusal: domain::refusal::Refusal,
+struct DomainFault {
+    refusal: domain::refusal::Refusal,
 }
 
-impl fmt::Display for DomainRefused {
+impl fmt::Display for DomainFault {
     fn fmt<W: fmt::Write>(&self, f: &mut Formatter<W>) -> fmt::Result {
-        let report = self.refusal.report();
-        writeln!(f, "domain refused {report}")?;
         match self.refusal {
-            domain::refusal::Refusal::Unread(refusal) => write!(f, "{}", Unread { refusal }),
+            domain::refusal::Refusal::Unread(refusal) => write!(f, "{}", BytesFault { refusal }),
             domain::refusal::Refusal::Edition { place } => writeln!(
                 f,
                 "The edition at bit {place} is not 1."
@@ -75,18 +83,16 @@ impl fmt::Display for DomainRefused {
     }
 }
 
-// A refused plan.
+// What is wrong with a plan.
 #[derive(Clone, Copy)]
-pub struct PlanRefused {
-    pub refusal: plan::refusal::Refusal,
+struct PlanFault {
+    refusal: plan::refusal::Refusal,
 }
 
-impl fmt::Display for PlanRefused {
+impl fmt::Display for PlanFault {
     fn fmt<W: fmt::Write>(&self, f: &mut Formatter<W>) -> fmt::Result {
-        let report = self.refusal.report();
-        writeln!(f, "plan refused {report}")?;
         match self.refusal {
-            plan::refusal::Refusal::Unread(refusal) => write!(f, "{}", Unread { refusal }),
+            plan::refusal::Refusal::Unread(refusal) => write!(f, "{}", BytesFault { refusal }),
             plan::refusal::Refusal::Edition { place } => writeln!(
                 f,
                 "The edition at bit {place} is not 1."

@@ -29,18 +29,13 @@ struct SetText {
 
 impl fmt::Display for SetText {
     fn fmt<W: fmt::Write>(&self, f: &mut Formatter<W>) -> fmt::Result {
-        if self.set == 0 {
+        let mut members = (0..64).filter(|literal| contains(self.set, *literal));
+        let Some(literal) = members.next() else {
             return f.write_str("none");
-        }
-        let mut first = true;
-        for literal in 0..64 {
-            if contains(self.set, literal) {
-                if !first {
-                    f.write_str(", ")?;
-                }
-                first = false;
-                write!(f, "{}", LiteralText { literal })?;
-            }
+        };
+        write!(f, "{}", LiteralText { literal })?;
+        for literal in members {
+            write!(f, ", {}", LiteralText { literal })?;
         }
         Ok(())
     }
@@ -100,28 +95,22 @@ pub struct Sheet<'a> {
 
 impl fmt::Display for Sheet<'_> {
     fn fmt<W: fmt::Write>(&self, f: &mut Formatter<W>) -> fmt::Result {
-        let fluents = self.domain.fluents();
-        let actions = self.domain.actions();
+        let domain = self.domain;
+        let fluents = domain.fluents();
+        let actions = domain.actions();
         writeln!(f, "domain: fluents {fluents}, actions {actions}")?;
         let initial = SetText {
-            set: self.domain.initial(),
+            set: domain.initial(),
         };
         writeln!(f, "initially {initial}")?;
-        for group in self.domain.groups() {
+        for group in domain.groups() {
             let group = SetText { set: *group };
             writeln!(f, "one of {group}")?;
         }
         for action in 0..actions {
-            let domain = self.domain;
             write!(f, "{}", ActionText { domain, action })?;
         }
-        write!(
-            f,
-            "{}",
-            Goals {
-                domain: self.domain
-            }
-        )
+        write!(f, "{}", Goals { domain })
     }
 }
 

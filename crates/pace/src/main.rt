@@ -3,6 +3,10 @@
 // Standard input: how often, in two bytes, and a packed domain of 16 actions.
 #![tactic(auto)]
 
+ghost use Rattle.std.specs.Prelude.{◌≡◌, ◌&&◌, nat_lt, is_ok, if◌then◌else◌};
+ghost use Rattle.literals.specs.Tables.{empty};
+ghost use Rattle.reasoner.specs.Asking.{question, answer_to};
+
 use bits::reader::Reader;
 use bits::width::Width;
 use domain::record::Domain;
@@ -16,12 +20,13 @@ use worlds::worlds::AllWorlds;
 
 fn main(rt: HostRuntime) -> io::Result<()> {
     let mut buffer = [0u8; 4096];
+    // One read, and not the loop of `account`: sharing that would take one more public function in a library.
     let count = rt.stdin().read(&mut buffer)?;
-    let mut reader = Reader::new(&buffer[0..count]);
-    let Ok((times, _)) = reader.field(Width::SIXTEEN) else {
+    let input = &buffer[..count];
+    let Ok((times, _)) = Reader::new(input).field(Width::SIXTEEN) else {
         return println!(rt; "no count");
     };
-    let Ok(domain) = Domain::read(&buffer[2..count]) else {
+    let Ok(domain) = Domain::read(&input[2..]) else {
         return println!(rt; "no domain");
     };
     let mut orders = Orders::none();
@@ -34,20 +39,32 @@ fn main(rt: HostRuntime) -> io::Result<()> {
     }
     let history = History {};
     let worlds = AllWorlds {};
-    let mut table = Table::empty();
-    let mut largest = worlds.largest();
-    if domain.fluents() > largest {
-        largest = history.largest();
-        for _ in 0..times {
-            let _ = history.ask(&domain, &orders, &told, &mut table);
-        }
+    let (largest, table) = if domain.fluents() > worlds.largest() {
+        let table = asked(&history, times, &domain, &orders, &told);
+        (history.largest(), table)
     } else {
-        for _ in 0..times {
-            let _ = worlds.ask(&domain, &orders, &told, &mut table);
-        }
-    }
+        let table = asked(&worlds, times, &domain, &orders, &told);
+        (worlds.largest(), table)
+    };
     let first = table.at(0);
     println!(rt;
         "a reasoner for up to {largest} fluents, asked {times} times; known at first: {first:x}"
     )
+}
+
+// What a reasoner shows that is asked so many times; where it is not asked, or refuses the domain, nothing.
+fn asked<R: Reasoner>(
+    reasoner: &R,
+    times: u16,
+    domain: &Domain,
+    orders: &Orders,
+    told: &Table,
+) -> Table
+    ensures { let asked = question domain.now orders.now told.now in result.sets ≡ (if nat_lt 0 times && is_ok (answer_to (R.mind reasoner.now) asked) then (R.mind reasoner.now).meaning asked else empty) }
+{
+    let mut table = Table::empty();
+    for _ in 0..times {
+        let _ = reasoner.ask(domain, orders, told, &mut table);
+    }
+    table
 }

@@ -4,7 +4,7 @@
 use domain::record::Domain;
 use input::split;
 use outline::plans::Outline;
-use outline::refusals::{DomainRefused, InputRefused, PlanRefused};
+use outline::refusals::Refused;
 use outline::sheets::Sheet;
 use plan::record::Plan;
 use std::io;
@@ -41,18 +41,18 @@ const PLANS: [&[u8]; 5] = [
 fn main(rt: HostRuntime) -> io::Result<()> {
     match split(&INPUT) {
         Ok(_) => println!(rt; "an input")?,
-        Err(refusal) => print!(rt; "{}", InputRefused { refusal })?,
+        Err(refusal) => print!(rt; "{}", Refused::Input(refusal))?,
     }
     for bytes in &DOMAINS {
         match Domain::read(bytes) {
             Ok(domain) => print!(rt; "{}", Sheet { domain: &domain })?,
-            Err(refusal) => print!(rt; "{}", DomainRefused { refusal })?,
+            Err(refusal) => print!(rt; "{}", Refused::Domain(refusal))?,
         }
     }
     for bytes in &PLANS {
         match Plan::read(bytes) {
             Ok(plan) => print!(rt; "{}", Outline { plan: &plan })?,
-            Err(refusal) => print!(rt; "{}", PlanRefused { refusal })?,
+            Err(refusal) => print!(rt; "{}", Refused::Plan(refusal))?,
         }
     }
     Ok(())

@@ -69,20 +69,20 @@ mod tests {
         }
     }
 
-    // Whether a fluent is known true, known false or not known at a moment, by the literal that says it is true.
-    fn mark(table: &Table, literal: Literal, moment: usize) -> u8 {
+    // Whether a fluent is known true or known false at a moment, or neither, by the literal that says it is true.
+    fn mark(table: &Table, literal: Literal, moment: usize) -> Option<bool> {
         let set = table.at(moment);
         if contains(set, literal) {
-            return b'1';
+            return Some(true);
         }
         if contains(set, opposite(literal)) {
-            return b'0';
+            return Some(false);
         }
-        b'?'
+        None
     }
 
     // The marks of the first three moments.
-    fn row(table: &Table, literal: Literal) -> [u8; 3] {
+    fn row(table: &Table, literal: Literal) -> [Option<bool>; 3] {
         [
             mark(table, literal, 0),
             mark(table, literal, 1),
@@ -92,35 +92,25 @@ mod tests {
 
     // Whether the reasoners show what a case says.
     fn runs_as_said(rt: &impl Abort, case: &Case) -> Result<(), Fail> {
-        assert!(rt; case.bytes <= 11);
-        assert!(rt; case.moments <= 2);
-        assert!(rt; case.facts <= 2);
-        let domain = &case.domain[0..case.bytes];
-        let orders = &case.orders[0..case.moments];
-        let told = &case.told[0..case.facts];
-        let table = shown(rt, &History {}, domain, orders, told)?;
+        assert!(rt; case.domain.len() <= 11);
+        assert!(rt; case.orders.len() <= 2);
+        assert!(rt; case.told.len() <= 2);
+        let table = shown(rt, &History {}, case.domain, case.orders, case.told)?;
         assert_eq!(rt; row(&table, 1), padded(case, 0));
         assert_eq!(rt; row(&table, 3), padded(case, 1));
         assert_eq!(rt; row(&table, 5), padded(case, 2));
-        let table = shown(rt, &AllWorlds {}, domain, orders, told)?;
+        let table = shown(rt, &AllWorlds {}, case.domain, case.orders, case.told)?;
         assert_eq!(rt;
-            table.is_full((case.fluents & 0xff) as u8, case.moments),
+            table.is_full((case.rows.len() & 0xff) as u8, case.orders.len()),
             !case.agreeing
         );
         Ok(())
     }
 
     // The marks of a fluent; nothing is known of fluents and moments that the case does not have.
-    fn padded(case: &Case, fluent: usize) -> [u8; 3] {
-        let mut marks = [b'?'; 3];
-        if fluent < case.fluents && fluent < 3 {
-            for moment in 0..3 {
-                if moment <= case.moments {
-                    marks[moment] = case.rows[fluent][moment];
-                }
-            }
-        }
-        marks
+    fn padded(case: &Case, fluent: usize) -> [Option<bool>; 3] {
+        let row = case.rows.get(fluent).copied().unwrap_or(&[]);
+        [0, 1, 2].map(|moment: usize| row.get(moment).copied().flatten())
     }
 
     #[test]
@@ -137,10 +127,10 @@ mod tests {
     #[test]
     fn one_of_a_group(rt: HostRuntime) -> Result<(), Fail> {
         let table = shown(&rt, &History {}, &ONE_IS, &[0], &[])?;
-        assert_eq!(rt; row(&table, 3), [b'0', b'0', b'?']);
-        assert_eq!(rt; row(&table, 5), [b'0', b'0', b'?']);
+        assert_eq!(rt; row(&table, 3), [Some(false), Some(false), None]);
+        assert_eq!(rt; row(&table, 5), [Some(false), Some(false), None]);
         let table = shown(&rt, &History {}, &TWO_ARE_NOT, &[0], &[])?;
-        assert_eq!(rt; row(&table, 5), [b'1', b'1', b'?']);
+        assert_eq!(rt; row(&table, 5), [Some(true), Some(true), None]);
         let table = shown(&rt, &History {}, &NO_WORLD, &[], &[])?;
         assert_eq!(rt; table.at(0), 0, "no world, and nothing known");
         Ok(())
@@ -203,11 +193,15 @@ mod tests {
         let table = shown(&rt, &AllWorlds {}, &NO_WORLD, &[], &[])?;
         assert!(rt; table.same(&Table::full(2, 0)), "no world");
         let table = shown(&rt, &History {}, &FALSE_ANYWAY, &[0], &[])?;
-        assert_eq!(rt; row(&table, 1), [b'?', b'?', b'?'], "by the rules");
+        assert_eq!(rt; row(&table, 1), [None, None, None], "by the rules");
         let table = shown(&rt, &AllWorlds {}, &FALSE_ANYWAY, &[0], &[])?;
-        assert_eq!(rt; row(&table, 1), [b'?', b'0', b'?'], "by the worlds");
+        assert_eq!(rt; row(&table, 1), [None, Some(false), None], "by the worlds");
         let table = shown(&rt, &AllWorlds {}, &WORKED, &[0, 1], &[(1, 1)])?;
-        assert_eq!(rt; row(&table, 3), [b'1', b'1', b'1'], "the gate was open");
+        assert_eq!(rt;
+            row(&table, 3),
+            [Some(true), Some(true), Some(true)],
+            "the gate was open"
+        );
         Ok(())
     }
 
@@ -218,7 +212,7 @@ mod tests {
             fluent: 0,
         };
         let table = shown(&rt, &supposing, &FALSE_ANYWAY, &[0], &[])?;
-        assert_eq!(rt; row(&table, 1), [b'?', b'0', b'?']);
+        assert_eq!(rt; row(&table, 1), [None, Some(false), None]);
         let outside = Supposing {
             below: History {},
             fluent: 200,
@@ -226,7 +220,7 @@ mod tests {
         let table = shown(&rt, &outside, &FALSE_ANYWAY, &[0], &[])?;
         assert_eq!(rt;
             row(&table, 1),
-            [b'?', b'?', b'?'],
+            [None, None, None],
             "a fluent outside the domain"
         );
         let above_worlds = Supposing {
@@ -247,13 +241,13 @@ mod tests {
             fluent: 1,
         };
         let table = shown(&rt, &two, &FOUR_CASES, &[0, 1, 2, 3], &[])?;
-        assert_eq!(rt; mark(&table, 7, 4), b'?', "two deep");
+        assert_eq!(rt; mark(&table, 7, 4), None, "two deep");
         let three = Supposing {
             below: two,
             fluent: 2,
         };
         let table = shown(&rt, &three, &FOUR_CASES, &[0, 1, 2, 3], &[])?;
-        assert_eq!(rt; mark(&table, 7, 4), b'1', "three deep");
+        assert_eq!(rt; mark(&table, 7, 4), Some(true), "three deep");
         Ok(())
     }
 
