@@ -1,4 +1,5 @@
 // Refusals as text: a number and values, then what they mean.
+use bits::report::Reported;
 use std::fmt;
 use std::fmt::Formatter;
 

@@ -1,6 +1,7 @@
 // Logs through their calls.
 #[cfg(test)]
 mod tests {
+    use bits::report::Reported;
     use domain::record::Domain;
     use history::history::History;
     use literals::set::{LiteralSet, with};

@@ -2,6 +2,7 @@
 #[cfg(test)]
 mod tests {
     use bits::refusal::TooShort;
+    use bits::report::Reported;
     use bits::width::Width;
     use bits::writer::Writer;
     use domain::record::Domain;

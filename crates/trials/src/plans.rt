@@ -4,6 +4,7 @@ ghost use Rattle.std.specs.Prelude.{◌≤◌};
 #[cfg(test)]
 mod tests {
     use bits::refusal::TooShort;
+    use bits::report::Reported;
     use bits::width::Width;
     use bits::writer::Writer;
     use plan::record::Plan;

@@ -1,6 +1,7 @@
 // What reasoners show.
 #[cfg(test)]
 mod tests {
+    use bits::report::Reported;
     use cases::cases::{Case, case_of};
     use domain::record::Domain;
     use history::history::History;
