@@ -1,5 +1,5 @@
 // Domain sheets, read field by field.
-ghost use Rattle.std.specs.Prelude.{◌≡◌, ◌≤◌, true, IfOk};
+ghost use Rattle.std.specs.Prelude.{◌≡◌, ◌≤◌, true, IfOk, if◌then◌else◌};
 ghost use Rattle.bits.specs.Bits.{bits_of};
 ghost use Rattle.bits.specs.Fields.{Onward};
 ghost use Rattle.lists.specs.Lists.{items_of};
@@ -128,7 +128,7 @@ fn row(reader: &mut Reader, fluents: u8, action: u8) -> Result<(Row, u128), Refu
     ensures moved { Onward result reader.old reader.new }
 {
     let (kind, _) = field(reader, Width::ONE)?;
-    row_of_kind(reader, fluents, action, kind)
+    row_of_kind(reader, fluents, action, kind == 1)
 }
 
 // An action's needs and what it does.
@@ -136,13 +136,13 @@ fn row_of_kind(
     reader: &mut Reader,
     fluents: u8,
     action: u8,
-    kind: u16,
+    senses: bool,
 ) -> Result<(Row, u128), Refusal>
-    ensures value { holds action_in result ≡ row_at (bits_of reader.old.bytes.now) fluents action kind reader.old.place }
+    ensures value { holds action_in result ≡ row_at (bits_of reader.old.bytes.now) fluents action (if senses then 1 else 0) reader.old.place }
     ensures moved { Onward result reader.old reader.new }
 {
     let (needs, _) = list(reader, fluents, UP_TO_EIGHT)?;
-    let (kind, next) = deed(reader, fluents, action, kind)?;
+    let (kind, next) = deed(reader, fluents, action, senses)?;
     Ok((Row { needs, kind }, next))
 }
 

@@ -16,17 +16,17 @@ use bits::width::Width;
 use lists::fixed_list::FixedList;
 use literals::set::{opposite, opposites};
 
-// What the action does, once its kind is known: 1 for sensing.
+// What the action does: it senses, or it works.
 pub(crate) fn deed(
     reader: &mut Reader,
     fluents: u8,
     action: u8,
-    kind: u16,
+    senses: bool,
 ) -> Result<(Kind, u128), Refusal>
-    ensures value { holds deed_in result ≡ deed_at (bits_of reader.old.bytes.now) fluents action kind reader.old.place }
+    ensures value { holds deed_in result ≡ deed_at (bits_of reader.old.bytes.now) fluents action (if senses then 1 else 0) reader.old.place }
     ensures moved { Onward result reader.old reader.new }
 {
-    if kind == 1 {
+    if senses {
         let (fluent, next) = sensing(reader, fluents)?;
         return Ok((Kind::Sensing { fluent }, next));
     }
