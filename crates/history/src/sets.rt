@@ -33,11 +33,7 @@ fn grouped(facts: LiteralSet, group: LiteralSet) -> LiteralSet
 pub(crate) fn all_grouped(groups: &[LiteralSet], facts: LiteralSet) -> LiteralSet
     ensures { result ≡ all_grouped groups.now facts }
 {
-    let mut found = facts;
-    for group in groups {
-        found = grouped(found, *group);
-    }
-    found
+    groups.iter().copied().fold(facts, grouped)
 }
 
 // Whether the opposite of none of its conditions is known.
@@ -62,11 +58,9 @@ fn coming(facts: LiteralSet, effect: &Effect) -> LiteralSet
 pub(crate) fn may_come(effects: &[Effect], facts: LiteralSet) -> LiteralSet
     ensures { result ≡ may_come effects.now facts }
 {
-    let mut literals = 0;
-    for effect in effects {
-        literals |= coming(facts, effect);
-    }
-    literals
+    effects
+        .iter()
+        .fold(0, |literals, effect| literals | coming(facts, effect))
 }
 
 // The conditions of an effect whose literal was false and came true.

@@ -1,4 +1,4 @@
-use Rattle.std.proofs.Common.{sym, refl, arith}
+use Rattle.std.proofs.Common.{rules, sym, arith}
 use Rattle.std.proofs.lemmas.Bool.{eq-eqb, ne_eqb}
 use Rattle.literals.proofs.Laws.{ones_place, ones_power}
 use Rattle.knowledge.specs.Sweeps.{left_over}
@@ -6,7 +6,7 @@ use Rattle.history.proofs.sets.left_over.Goals as goal
 
 pub returns-then-count-eq0 : goal.returns-then-count-eq0
 unfolding left_over
-returns-then-count-eq0 c = rw (sym c.without-left.ensures, eq-eqb _ _ c.if-count-eq0.true) refl
+returns-then-count-eq0 c = search rules
 
 pub overflow_shl-result : goal.overflow_shl-result
 overflow_shl-result c = ones_place c.without-left.result c.without-left.type_inv c.if-count-eq1.true
@@ -19,4 +19,4 @@ returns-then-count-eq1 c =
 
 pub returns : goal.returns
 unfolding left_over
-returns c = rw (sym c.without-left.ensures, ne_eqb _ _ c.if-count-eq0.false, ne_eqb _ _ c.if-count-eq1.false) refl
+returns c = search rules
