@@ -11,14 +11,11 @@ pub(crate) fn left_over(set: LiteralSet, known: LiteralSet) -> LiteralSet
     ensures { result ≡ left_over set known }
 {
     let left = without(set, known);
-    let count = left.count_ones();
-    if count == 0 {
-        return set;
+    match left.count_ones() {
+        0 => set,
+        1 => left,
+        _ => 0,
     }
-    if count == 1 {
-        return 1 << left.trailing_zeros();
-    }
-    0
 }
 
 // The facts of moment 0 with what a group gives.
@@ -67,7 +64,7 @@ pub(crate) fn may_come(effects: &[Effect], facts: LiteralSet) -> LiteralSet
 pub(crate) fn came(effect: &Effect, before: LiteralSet, after: LiteralSet) -> LiteralSet
     ensures { result ≡ came effect.now before after }
 {
-    if contains(after, effect.literal) & contains(before, opposite(effect.literal)) {
+    if contains(after, effect.literal) && contains(before, opposite(effect.literal)) {
         effect.conditions
     } else {
         0

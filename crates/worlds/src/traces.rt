@@ -1,8 +1,7 @@
 // The states of a world at all moments.
-ghost use Rattle.std.specs.Prelude.{◌≡◌, suc, ◌≤◌, length};
-ghost use Rattle.literals.specs.Recorded.{recorded};
-ghost use Rattle.domain.specs.Domains.{sheet};
+ghost use Rattle.std.specs.Prelude.{◌≡◌, suc, ◌≤◌};
 ghost use Rattle.knowledge.specs.AllWorlds.{trace, tells_true, agrees, narrowed, narrowed_all, in_all_worlds};
+ghost use Rattle.knowledge.specs.Questions.{latest};
 ghost use Rattle.reasoner.specs.Asking.{asked};
 
 use crate::states::{is_world, moved};
@@ -27,7 +26,7 @@ fn trace(question: &Question, first: LiteralSet) -> Table
 
 // Whether the told facts of the fluents are true at each moment.
 fn tells_true(question: &Question, states: &Table) -> bool
-    ensures { result ≡ tells_true (sheet question.now.domain.now).fluents question.now.told.now.sets (suc (length (recorded question.now.orders.now))) 0 states.now.sets }
+    ensures { result ≡ tells_true (asked question.now).sheet.fluents (asked question.now).told (suc (latest (asked question.now))) 0 states.now.sets }
 {
     let literals = all(question.domain.fluents());
     (0..question.orders.len() + 1).all(|moment| covers(

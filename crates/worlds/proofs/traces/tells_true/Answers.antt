@@ -1,13 +1,14 @@
-use Rattle.std.proofs.Common.{suc, ◌+◌, length, refl, rules, arith}
+use Rattle.std.proofs.Common.{suc, ◌+◌, refl, rules, arith}
 use Rattle.std.proofs.lemmas.Iterator.{YieldsList-from_range}
 use Rattle.std.proofs.lemmas.Iterator.Search.{all_from_yields_List}
-use Rattle.literals.specs.Recorded.{recorded}
-use Rattle.domain.specs.Domains.{sheet}
+use Rattle.knowledge.specs.Questions.{latest}
+use Rattle.reasoner.specs.Asking.{asked}
 use Rattle.worlds.proofs.Loops.{has_told, tells_true-list_all}
 use Rattle.worlds.proofs.traces.tells_true.Goals as goal
 
 pub returns : goal.returns
 returns c =
-    let q = c.args.question.now in
+    let q = asked c.args.question.now in
     rw tells_true-list_all
-    (all_from_yields_List (has_told (sheet q.domain.now).fluents q.told.now.sets c.args.states.now.sets) _ _ c.all.result c.all.ensures.ran (YieldsList-from_range 0 (c.len.result + 1) (suc (length (recorded q.orders.now))) refl (omega (arith, c.len.ensures))) (λ x b q k. search rules))
+    (all_from_yields_List (has_told q.sheet.fluents q.told c.args.states.now.sets) _ _ c.all.result c.all.ensures.ran
+    (YieldsList-from_range 0 (c.len.result + 1) (suc (latest q)) refl (omega (arith, c.len.ensures))) (λ x b q k. search rules))
