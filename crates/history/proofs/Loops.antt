@@ -27,13 +27,16 @@ unfolding clash
 clash-list_any [] = refl
 clash-list_any (s ∷ sets) = ap (λ b. clashing s || b) (clash-list_any sets)
 
--- the literals of the open effects, after some that were found
 module _ (facts : ℕ) where
-  coming_from : (es : List Effect) (found whole : ℕ) → found < 2 ^ 64 → bit_or found (may_come es facts) ≡ whole → whole ≡ fold (λ a e. bit_or a (cond (is_open facts e) (single e.literal) 0)) found es
+  -- the literal of an effect, if it is open
+  abbrev pub coming : Effect → ℕ
+  coming e = cond (is_open facts e) (single e.literal) 0
+
+  -- the literals of the open effects, after some that were found
+  coming_from : (es : List Effect) (found whole : ℕ) → found < 2 ^ 64 → bit_or found (may_come es facts) ≡ whole → whole ≡ fold (λ a e. bit_or a (coming e)) found es
   coming_from [] found whole small so_far = sym (union_done (coming_union facts) [] 0 found whole so_far small (omega arith))
   coming_from (e ∷ es) found whole small so_far =
-      coming_from es (bit_or found (cond (is_open facts e) (single e.literal) 0)) whole (or_below _ _ small ((coming_union facts).small e))
-      (union_more (coming_union facts) (e ∷ es) 0 found whole so_far small _ (omega arith) refl)
+      coming_from es (bit_or found (coming e)) whole (or_below _ _ small ((coming_union facts).small e)) (union_more (coming_union facts) (e ∷ es) 0 found whole so_far small _ (omega arith) refl)
 
-  pub may_come-fold : (es : List Effect) → may_come es facts ≡ fold (λ a e. bit_or a (cond (is_open facts e) (single e.literal) 0)) 0 es
+  pub may_come-fold : (es : List Effect) → may_come es facts ≡ fold (λ a e. bit_or a (coming e)) 0 es
   may_come-fold es = coming_from es 0 (may_come es facts) (omega arith) (union_first (coming_union facts) es)

@@ -23,11 +23,12 @@ passed-suc d orders zero t last sets is =
 passed-suc d orders (suc n) t last sets is = passed-suc d orders n (suc t) last (turned d orders t sets) (omega arith)
 
 module _ (d : Domain) (o : Orders) where
-  abbrev asked : Question
-  asked = record { sheet = sheet d; orders = recorded o; told = [] }
+  -- sweeps do not read what was told
+  abbrev untold : Question
+  untold = record { sheet = sheet d; orders = recorded o; told = [] }
 
   fits : Fitting (record { sheet = sheet d; orders = recorded o; told = [] })
-  fits = fitting_of asked d.lawful (few_recorded o)
+  fits = fitting_of untold d.lawful (few_recorded o)
 
   -- a sweep that adds leaves less room
   pub falls : (before : Table) (after : List ℕ) → after ≡ sweep (sheet d) (recorded o) before.sets → not (same after before.sets) ≡ true → room after < room before.sets
@@ -36,18 +37,18 @@ module _ (d : Domain) (o : Orders) where
       (λ (done : sweep (sheet d) (recorded o) before.sets ≡ before.sets).
       absurd (both_ways _ (not-true _ added) ((same_decides after before.sets).1 (is ∙ done))))
       (λ (less : room (sweep (sheet d) (recorded o) before.sets) < room before.sets). rw is less)
-      (sweep_falls asked fits before.sets (is_table before))
+      (sweep_falls untold fits before.sets (is_table before))
 
   -- sweeps go on after one that adds
   pub go_on : (before : Table) (after : List ℕ) → after ≡ sweep (sheet d) (recorded o) before.sets → true ≡ not (same after before.sets)
       → sweeps (sheet d) (recorded o) (room after) after ≡ sweeps (sheet d) (recorded o) (room before.sets) before.sets
   go_on before after is added =
       let differs : sweep (sheet d) (recorded o) before.sets ≢ before.sets = λ done. both_ways _ (not-true _ (sym added)) ((same_decides after before.sets).1 (is ∙ done)) in
-      rw is (sweeps_again asked fits before.sets (is_table before) differs)
+      rw is (sweeps_again untold fits before.sets (is_table before) differs)
 
   -- and end with one that adds nothing
   pub all_swept : (before : Table) (after : List ℕ) → after ≡ sweep (sheet d) (recorded o) before.sets → false ≡ not (same after before.sets)
       → after ≡ sweeps (sheet d) (recorded o) (room before.sets) before.sets
   all_swept before after is added =
       let done = (same_decides after before.sets).0 (not-false _ (sym added)) in
-      done ∙ sym (sweeps_done asked fits (room before.sets) before.sets (sym is ∙ done))
+      done ∙ sym (sweeps_done untold fits (room before.sets) before.sets (sym is ∙ done))

@@ -43,6 +43,7 @@ impl<R: Reasoner> Reasoner for Supposing<R> {
             orders,
             told,
         };
+        // The literal that says that it is false; the next one says that it is true.
         let is_false = 2 * self.fluent;
         let mut if_true = Table::empty();
         let mut if_false = Table::empty();
