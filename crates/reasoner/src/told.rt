@@ -1,5 +1,5 @@
 // Told facts.
-ghost use Rattle.std.specs.Prelude.{◌≡◌, suc, ◌≤◌, length};
+ghost use Rattle.std.specs.Prelude.{◌≡◌, suc, length};
 ghost use Rattle.literals.specs.Recorded.{recorded};
 ghost use Rattle.literals.specs.Tables.{empty};
 ghost use Rattle.domain.specs.Domains.{sheet};
