@@ -1,45 +1,42 @@
--- One turn of each loop over groups and effects. Assumes nothing.
-use Rattle.std.proofs.Common.{◌≡◌, ℕ, ◌+◌, ◌<◌, ◌≤◌, Bool, true, false, not, ◌||◌, eqb, List, length, get_or, drop, sym, ap, ◌∙◌}
-use lib.Bits.{bit_and}
-use Rattle.std.proofs.lemmas.List.{drop_more, drop_all}
-use Rattle.literals.specs.Literals.{opposites}
+-- What the specs say by recursion over groups, effects and moments, as folds and tests of lists. Assumes nothing.
+use Rattle.std.proofs.Common.{◌≡◌, ℕ, ◌^◌, ◌<◌, Bool, cond, not, ◌||◌, eqb, List, [], ◌∷◌, sym, refl, ap, arith}
+use lib.Bits.{bit_and, bit_or}
+use Rattle.std.specs.List.{fold, list_any}
+use Rattle.literals.specs.Literals.{single, opposites}
+use Rattle.literals.proofs.Laws.{or_below}
 use Rattle.domain.specs.declared.action.Effect.{Effect}
-use Rattle.knowledge.specs.Sweeps.{grouped, all_grouped, worked, all_worked, clash}
-use Rattle.knowledge.proofs.Laws.{blank}
+use Rattle.knowledge.specs.Sweeps.{grouped, all_grouped, worked, all_worked, is_open, may_come, clash}
+use Rattle.knowledge.proofs.Laws.{union_first, union_more, union_done, coming_union}
 
--- groups
-module _ (gs : List ℕ) (i facts whole : ℕ) (so_far : all_grouped (drop i gs) facts ≡ whole) where
-  pub groups_more : (next : ℕ) → i < length gs → next ≡ grouped facts (get_or gs i 0) → all_grouped (drop (i + 1) gs) next ≡ whole
-  unfolding all_grouped
-  groups_more next inside is = ap (all_grouped (drop (i + 1) gs)) is ∙ ap (λ l. all_grouped l facts) (sym (drop_more gs i 0 inside)) ∙ so_far
+pub all_grouped-fold : (gs : List ℕ) (facts : ℕ) → all_grouped gs facts ≡ fold grouped facts gs
+unfolding all_grouped
+all_grouped-fold [] facts = refl
+all_grouped-fold (g ∷ gs) facts = all_grouped-fold gs (grouped facts g)
 
-  pub groups_done : length gs ≤ i → facts ≡ whole
-  unfolding all_grouped
-  groups_done all = ap (λ l. all_grouped l facts) (sym (drop_all i gs all)) ∙ so_far
+pub all_worked-fold : (es : List Effect) (facts : ℕ × ℕ) → all_worked es facts ≡ fold (λ p e. worked e p) facts es
+unfolding all_worked
+all_worked-fold [] facts = refl
+all_worked-fold (e ∷ es) facts = all_worked-fold es (worked e facts)
 
--- effects
-module _ (es : List Effect) (i : ℕ) (facts whole : ℕ × ℕ) (so_far : all_worked (drop i es) facts ≡ whole) where
-  pub worked_more : (next : ℕ × ℕ) → i < length es → next ≡ worked (get_or es i blank) facts → all_worked (drop (i + 1) es) next ≡ whole
-  unfolding all_worked
-  worked_more next inside is = ap (all_worked (drop (i + 1) es)) is ∙ ap (λ l. all_worked l facts) (sym (drop_more es i blank inside)) ∙ so_far
+-- a literal and its opposite are in a set
+abbrev pub clashing : ℕ → Bool
+clashing s = not (eqb (bit_and s (opposites s)) 0)
 
-  pub worked_done : length es ≤ i → facts ≡ whole
-  unfolding all_worked
-  worked_done all = ap (λ l. all_worked l facts) (sym (drop_all i es all)) ∙ so_far
+pub clash-list_any : (sets : List ℕ) → clash sets ≡ list_any clashing sets
+unfolding clash
+clash-list_any [] = refl
+clash-list_any (s ∷ sets) = ap (λ b. clashing s || b) (clash-list_any sets)
 
--- clashes
-module _ (sets : List ℕ) (i : ℕ) (so_far : clash (drop i sets) ≡ clash sets) where
-  abbrev here : Bool
-  here = not (eqb (bit_and (get_or sets i 0) (opposites (get_or sets i 0))) 0)
+module _ (facts : ℕ) where
+  -- the literal of an effect, if it is open
+  abbrev pub coming : Effect → ℕ
+  coming e = cond (is_open facts e) (single e.literal) 0
 
-  pub clash_here : i < length sets → true ≡ here → true ≡ clash sets
-  unfolding clash
-  clash_here inside found = ap (λ b. b || clash (drop (i + 1) sets)) found ∙ ap clash (sym (drop_more sets i 0 inside)) ∙ so_far
+  -- the literals of the open effects, after some that were found
+  coming_from : (es : List Effect) (found whole : ℕ) → found < 2 ^ 64 → bit_or found (may_come es facts) ≡ whole → whole ≡ fold (λ a e. bit_or a (coming e)) found es
+  coming_from [] found whole small so_far = sym (union_done (coming_union facts) [] 0 found whole so_far small (omega arith))
+  coming_from (e ∷ es) found whole small so_far =
+      coming_from es (bit_or found (coming e)) whole (or_below _ _ small ((coming_union facts).small e)) (union_more (coming_union facts) (e ∷ es) 0 found whole so_far small _ (omega arith) refl)
 
-  pub clash_later : i < length sets → false ≡ here → clash (drop (i + 1) sets) ≡ clash sets
-  unfolding clash
-  clash_later inside none = ap (λ b. b || clash (drop (i + 1) sets)) none ∙ ap clash (sym (drop_more sets i 0 inside)) ∙ so_far
-
-  pub clash_never : length sets ≤ i → false ≡ clash sets
-  unfolding clash
-  clash_never all = ap clash (sym (drop_all i sets all)) ∙ so_far
+  pub may_come-fold : (es : List Effect) → may_come es facts ≡ fold (λ a e. bit_or a (coming e)) 0 es
+  may_come-fold es = coming_from es 0 (may_come es facts) (omega arith) (union_first (coming_union facts) es)

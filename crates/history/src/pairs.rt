@@ -1,6 +1,6 @@
 // What the effects between two moments give.
 ghost use Rattle.std.specs.Prelude.{◌≡◌};
-ghost use Rattle.knowledge.specs.Sweeps.{kept, worked, all_worked, between};
+ghost use Rattle.knowledge.specs.Sweeps.{kept, worked, between};
 
 use crate::sets::{came, came_not, may_come};
 use domain::action::Effect;
@@ -14,7 +14,7 @@ type Pair = (LiteralSet, LiteralSet);
 pub(crate) fn between(effects: &[Effect], facts: Pair) -> Pair
     ensures { result ≡ between effects.now facts }
 {
-    all_worked(effects, kept(effects, facts))
+    effects.iter().fold(kept(effects, facts), worked)
 }
 
 // With what inertia gives, forward and backward.
@@ -30,7 +30,7 @@ fn kept(effects: &[Effect], facts: Pair) -> Pair
 }
 
 // With what an effect gives, by postdiction and by cause.
-fn worked(effect: &Effect, facts: Pair) -> Pair
+fn worked(facts: Pair, effect: &Effect) -> Pair
     ensures { result ≡ worked effect.now facts }
 {
     let (before, after) = facts;
@@ -38,15 +38,4 @@ fn worked(effect: &Effect, facts: Pair) -> Pair
         before | (came(effect, before, after) | came_not(effect, before, after)),
         after | caused(effect, before),
     )
-}
-
-// With what each effect gives.
-fn all_worked(effects: &[Effect], facts: Pair) -> Pair
-    ensures { result ≡ all_worked effects.now facts }
-{
-    let mut found = facts;
-    for effect in effects {
-        found = worked(effect, found);
-    }
-    found
 }

@@ -11,14 +11,11 @@ pub(crate) fn left_over(set: LiteralSet, known: LiteralSet) -> LiteralSet
     ensures { result ≡ left_over set known }
 {
     let left = without(set, known);
-    let count = left.count_ones();
-    if count == 0 {
-        return set;
+    match left.count_ones() {
+        0 => set,
+        1 => left,
+        _ => 0,
     }
-    if count == 1 {
-        return 1 << left.trailing_zeros();
-    }
-    0
 }
 
 // The facts of moment 0 with what a group gives.
@@ -33,11 +30,7 @@ fn grouped(facts: LiteralSet, group: LiteralSet) -> LiteralSet
 pub(crate) fn all_grouped(groups: &[LiteralSet], facts: LiteralSet) -> LiteralSet
     ensures { result ≡ all_grouped groups.now facts }
 {
-    let mut found = facts;
-    for group in groups {
-        found = grouped(found, *group);
-    }
-    found
+    groups.iter().copied().fold(facts, grouped)
 }
 
 // Whether the opposite of none of its conditions is known.
@@ -62,18 +55,16 @@ fn coming(facts: LiteralSet, effect: &Effect) -> LiteralSet
 pub(crate) fn may_come(effects: &[Effect], facts: LiteralSet) -> LiteralSet
     ensures { result ≡ may_come effects.now facts }
 {
-    let mut literals = 0;
-    for effect in effects {
-        literals |= coming(facts, effect);
-    }
-    literals
+    effects
+        .iter()
+        .fold(0, |literals, effect| literals | coming(facts, effect))
 }
 
 // The conditions of an effect whose literal was false and came true.
 pub(crate) fn came(effect: &Effect, before: LiteralSet, after: LiteralSet) -> LiteralSet
     ensures { result ≡ came effect.now before after }
 {
-    if contains(after, effect.literal) & contains(before, opposite(effect.literal)) {
+    if contains(after, effect.literal) && contains(before, opposite(effect.literal)) {
         effect.conditions
     } else {
         0

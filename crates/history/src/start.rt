@@ -2,20 +2,19 @@
 ghost use Rattle.std.specs.Prelude.{◌≡◌, not, ◌==◌, bit_and};
 ghost use Rattle.literals.specs.Literals.{opposites};
 ghost use Rattle.knowledge.specs.Sweeps.{start, clash};
-ghost use Rattle.reasoner.specs.Asking.{question};
+ghost use Rattle.reasoner.specs.Asking.{asked};
 
-use domain::record::Domain;
-use literals::orders::Orders;
 use literals::set::{LiteralSet, opposites};
 use literals::table::Table;
+use reasoner::question::Question;
 use reasoner::told::counted;
 
 // The told facts that count, and the initial literals.
-pub(crate) fn start(domain: &Domain, orders: &Orders, told: &Table) -> Table
-    ensures { result.sets ≡ start (question domain.now orders.now told.now) }
+pub(crate) fn start(question: &Question) -> Table
+    ensures { result.sets ≡ start (asked question.now) }
 {
-    let mut table = counted(domain, orders, told);
-    table.put(0, table.at(0) | domain.initial());
+    let mut table = counted(question.domain, question.orders, question.told);
+    table.put(0, table.at(0) | question.domain.initial());
     table
 }
 
@@ -23,12 +22,7 @@ pub(crate) fn start(domain: &Domain, orders: &Orders, told: &Table) -> Table
 pub(crate) fn clashes(sets: &[LiteralSet]) -> bool
     ensures { result ≡ clash sets.now }
 {
-    for set in sets {
-        if clashing(*set) {
-            return true;
-        }
-    }
-    false
+    sets.iter().copied().any(clashing)
 }
 
 fn clashing(set: LiteralSet) -> bool

@@ -42,8 +42,8 @@ fn pass(domain: &Domain, orders: &[u8], table: &mut Table)
     requires { length orders.now ≤ 32 }
     ensures { table.new.sets ≡ passed (sheet domain.now) orders.now (length orders.now) 0 table.old.sets }
 {
-    for (moment, action) in orders.iter().enumerate() {
-        turn(domain, *action, moment, table);
+    for (moment, &action) in orders.iter().enumerate() {
+        turn(domain, action, moment, table);
     }
 }
 

@@ -2,6 +2,7 @@
 #![tactic(auto)]
 
 pub mod effects;
+pub mod question;
 pub mod reasoner;
 pub mod refusal;
 pub mod told;

@@ -1,5 +1,5 @@
 // Told facts.
-ghost use Rattle.std.specs.Prelude.{◌≡◌, suc, ◌≤◌, length};
+ghost use Rattle.std.specs.Prelude.{◌≡◌, suc, length};
 ghost use Rattle.literals.specs.Recorded.{recorded};
 ghost use Rattle.literals.specs.Tables.{empty};
 ghost use Rattle.domain.specs.Domains.{sheet};
@@ -14,16 +14,9 @@ use literals::table::Table;
 pub fn counted(domain: &Domain, orders: &Orders, told: &Table) -> Table
     ensures { result.sets ≡ told_from (sheet domain.now).fluents told.now.sets (suc (length (recorded orders.now))) 0 empty }
 {
-    up_to(domain.fluents(), told, orders.len())
-}
-
-// The told facts of the fluents, up to the last moment.
-fn up_to(fluents: u8, told: &Table, last: usize) -> Table
-    requires { last ≤ 32 }
-    ensures { result.sets ≡ told_from fluents told.now.sets (suc last) 0 empty }
-{
+    let fluents = domain.fluents();
     let mut table = Table::empty();
-    for moment in 0..last + 1 {
+    for moment in 0..orders.len() + 1 {
         table.put(moment, told.at(moment) & all(fluents));
     }
     table

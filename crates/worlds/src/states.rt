@@ -13,11 +13,9 @@ use reasoner::effects::caused;
 fn firing(effects: &[Effect], state: LiteralSet) -> LiteralSet
     ensures { result ≡ firing effects.now state }
 {
-    let mut literals = 0;
-    for effect in effects {
-        literals |= caused(effect, state);
-    }
-    literals
+    effects
+        .iter()
+        .fold(0, |literals, effect| literals | caused(effect, state))
 }
 
 // The state after the effects.
@@ -32,19 +30,14 @@ pub(crate) fn moved(effects: &[Effect], state: LiteralSet) -> LiteralSet
 pub(crate) fn is_world(domain: &Domain, state: LiteralSet) -> bool
     ensures { result ≡ is_world (sheet domain.now) state }
 {
-    covers(state, domain.initial()) & one_of_each(domain.groups(), state)
+    covers(state, domain.initial()) && one_of_each(domain.groups(), state)
 }
 
 // Whether exactly one literal of each group is true.
 fn one_of_each(groups: &[LiteralSet], state: LiteralSet) -> bool
     ensures { result ≡ each (one_true state) groups.now }
 {
-    for group in groups {
-        if !one_true(*group, state) {
-            return false;
-        }
-    }
-    true
+    groups.iter().all(|&group| one_true(group, state))
 }
 
 fn one_true(group: LiteralSet, state: LiteralSet) -> bool

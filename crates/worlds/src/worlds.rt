@@ -8,12 +8,13 @@ use crate::traces::in_all_worlds;
 use domain::record::Domain;
 use literals::orders::Orders;
 use literals::table::Table;
+use reasoner::question::Question;
 use reasoner::reasoner::Reasoner;
 use reasoner::refusal::TooManyFluents;
 
 // It tries every state of up to 10 fluents.
 #[derive(Clone, Copy)]
-pub struct AllWorlds {}
+pub struct AllWorlds;
 
 impl AllWorlds {
     // The facts true in every world that agrees with the told facts; the full table where none agrees.
@@ -32,7 +33,11 @@ impl AllWorlds {
         if fluents > 10 {
             return Err(TooManyFluents { fluents });
         }
-        *shown = exactly(domain, orders, told);
+        *shown = in_all_worlds(&Question {
+            domain,
+            orders,
+            told,
+        });
         Ok(())
     }
 }
@@ -55,12 +60,4 @@ impl Reasoner for AllWorlds {
     ) -> Result<(), TooManyFluents> {
         self.true_facts(domain, orders, told, shown)
     }
-}
-
-// What is shown, and that it is exactly what is true in every world that agrees.
-fn exactly(domain: &Domain, orders: &Orders, told: &Table) -> Table
-    ensures value { result.sets ≡ in_all_worlds (question domain.now orders.now told.now) }
-    ensures exact { ShowsTrue (question domain.now orders.now told.now) result.sets }
-{
-    in_all_worlds(domain, orders, told)
 }

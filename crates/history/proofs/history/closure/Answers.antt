@@ -1,7 +1,7 @@
-use Rattle.std.proofs.Common.{refl, ◌∙◌}
+use Rattle.std.proofs.Common.{rules}
 use Rattle.knowledge.specs.Sweeps.{closure}
 use Rattle.history.proofs.history.closure.Goals as goal
 
 pub returns : goal.returns
 unfolding closure
-returns c = c.close.ensures ∙ rw c.start-table.ensures refl
+returns c = search rules

@@ -1,11 +1,9 @@
-use Rattle.history.proofs.Loops.{clash_here, clash_later, clash_never}
+use Rattle.std.proofs.Common.{rules}
+use Rattle.std.proofs.lemmas.Iterator.{YieldsList-from_slice}
+use Rattle.std.proofs.lemmas.Iterator.Consumers.{YieldsList-from_copied}
+use Rattle.std.proofs.lemmas.Iterator.Search.{any_from_yields_List}
+use Rattle.history.proofs.Loops.{clashing, clash-list_any}
 use Rattle.history.proofs.start.clashes.Goals as goal
 
-pub returns-then-clashing : goal.returns-then-clashing
-returns-then-clashing c = clash_here c.args.sets.now c.loop-set.set-index c.loop-set.invariant c.loop-set-test.true c.if-clashing.ensures
-
-pub loop-set-preserved : goal.loop-set-preserved
-loop-set-preserved c = clash_later c.args.sets.now c.loop-set.set-index c.loop-set.invariant c.loop-set-test.true c.if-clashing.ensures
-
 pub returns : goal.returns
-returns c = clash_never c.args.sets.now c.loop-set.set-index c.loop-set.invariant c.loop-set-test.false
+returns c = rw clash-list_any (any_from_yields_List clashing _ _ _ c.any.ensures.ran (YieldsList-from_copied (YieldsList-from_slice c.args.sets.now cc)) (λ x b q k. search rules))

@@ -1,7 +1,7 @@
-use Rattle.std.proofs.Common.{refl, ◌∙◌}
+use Rattle.std.proofs.Common.{rules}
 use Rattle.knowledge.specs.Sweeps.{start}
 use Rattle.history.proofs.start.start.Goals as goal
 
 pub returns : goal.returns
 unfolding start
-returns c = c.put.ensures ∙ rw (c.at.ensures, c.counted-table.ensures, c.initial.ensures) refl
+returns c = search rules

@@ -1,17 +1,14 @@
-use Rattle.std.proofs.Common.{refl, ◌∙◌}
-use Rattle.worlds.proofs.Rounds.{moments-first, moment_fails, moment_holds, moments_hold}
+use Rattle.std.proofs.Common.{suc, ◌+◌, refl, rules, arith}
+use Rattle.std.proofs.lemmas.Iterator.{YieldsList-from_range}
+use Rattle.std.proofs.lemmas.Iterator.Search.{all_from_yields_List}
+use Rattle.knowledge.specs.Questions.{latest}
+use Rattle.reasoner.specs.Asking.{asked}
+use Rattle.worlds.proofs.Loops.{has_told, tells_true-list_all}
 use Rattle.worlds.proofs.traces.tells_true.Goals as goal
 
-pub loop-moment-init : goal.loop-moment-init
-loop-moment-init c = moments-first c.args.fluents c.args.told.now.sets c.args.last c.args.trace.now.sets
-
-pub returns-then-not-covers : goal.returns-then-not-covers
-returns-then-not-covers c =
-    moment_fails c.args.fluents c.args.told.now.sets c.args.last c.loop-moment.moment c.args.trace.now.sets _ c.loop-moment.invariant c.loop-moment-test.true (c.if-not-covers.ensures ∙ rw (c.at.ensures, c.at-in-loop-moment.ensures, c.all.ensures) refl)
-
-pub loop-moment-preserved : goal.loop-moment-preserved
-loop-moment-preserved c =
-    moment_holds c.args.fluents c.args.told.now.sets c.args.last c.loop-moment.moment c.args.trace.now.sets _ c.loop-moment.invariant c.loop-moment-test.true (c.if-not-covers.ensures ∙ rw (c.at.ensures, c.at-in-loop-moment.ensures, c.all.ensures) refl)
-
 pub returns : goal.returns
-returns c = moments_hold c.args.fluents c.args.told.now.sets c.args.last c.loop-moment.moment c.args.trace.now.sets _ c.loop-moment.invariant c.loop-moment-test.false
+returns c =
+    let q = asked c.args.question.now in
+    rw tells_true-list_all
+    (all_from_yields_List (has_told q.sheet.fluents q.told c.args.states.now.sets) _ _ c.all.result c.all.ensures.ran
+    (YieldsList-from_range 0 (c.len.result + 1) (suc (latest q)) refl (omega (arith, c.len.ensures))) (λ x b q k. search rules))
