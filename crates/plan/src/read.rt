@@ -67,7 +67,8 @@ fn push(nodes: &mut Nodes, node: Node)
     nodes.push(node);
 }
 
-// The node at the reader's place, with `count` nodes before it and room for `remaining` orders and looks.
+// The node at the reader's place, with `count` nodes before it and room for `remaining` orders and looks. The tag is the layout's number
+// and becomes a `Node` here: an enum of tags would be `Node` again, without its actions.
 fn node(reader: &mut Reader, count: usize, remaining: u8) -> Result<(Node, u128), Refusal>
     ensures value { result ≡ node_at (bits_of reader.old.bytes.now) remaining count reader.old.place }
     ensures moved { Onward result reader.old reader.new }
