@@ -38,7 +38,8 @@ pub fn put_all<T: Packed>(writer: &mut Writer, items: &[T]) -> Result<(), TooSho
     put_each(writer, items)
 }
 
-// The same, with its proof by hand.
+// The same, with its proof by hand, so that a wrong line of `packed_len` is refused at that line. A loop, since it states its bound as
+// it goes: a sum would ask for that of the whole list beforehand.
 fn total_len<T: Packed>(items: &[T]) -> u128
     ensures value { result ≡ length (flat_map T.bits items.now) }
     ensures few { result ≤ T.most * length items.now }
@@ -50,7 +51,7 @@ fn total_len<T: Packed>(items: &[T]) -> u128
     bits
 }
 
-// The same, with its proof by hand.
+// The same, with its proof by hand, so that a wrong line of `put_all` is refused at that line.
 fn put_each<T: Packed>(writer: &mut Writer, items: &[T]) -> Result<(), TooShort>
     ensures { Wrote (is_ok result) (flat_map T.bits items.now) writer.old writer.new }
 {

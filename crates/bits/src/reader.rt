@@ -69,7 +69,7 @@ impl<'a> Reader<'a> {
         8 * self.bytes.len() as u128
     }
 
-    // The number that the next bits spell.
+    // The number that the next bits spell. A loop: as a fold, its closure would have to bound the number so far.
     fn number(&self, width: Width) -> u16
         requires { self.now.place + width.bits ≤ length (bits_of self.now.bytes.now) }
         ensures value { result ≡ number_at (bits_of self.now.bytes.now) self.now.place width.bits }

@@ -32,7 +32,8 @@ impl<'a> Writer<'a> {
         self.put_field(value, width)
     }
 
-    // The same, with its proof by hand.
+    // The same, with its proof by hand, so that a wrong line of `put` is refused at that line. Tried without it, with the lemma named on
+    // `put`: the clause `wrote` stayed open.
     fn put_field(&mut self, value: u16, width: Width) -> Result<u128, TooShort>
         ensures value { result ≡ written_field (length self.old.bytes.now) self.old.place width.bits }
         ensures place { self.new.place ≡ (if is_ok result then self.old.place + width.bits else self.old.place) }

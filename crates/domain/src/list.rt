@@ -2,7 +2,7 @@
 ghost use Rattle.std.specs.Prelude.{◌≡◌, ◌/◌, ◌^◌, ◌<◌, ◌≤◌, length, is_ok, IfOk};
 ghost use Rattle.std.specs.List.{flat_map};
 ghost use Rattle.bits.specs.Bits.{bits_of, numeral};
-ghost use Rattle.bits.specs.Fields.{Onward, Wrote};
+ghost use Rattle.bits.specs.Fields.{next_place, Onward, Wrote};
 ghost use Rattle.domain.specs.Lists.{domain_field, count_at, literal_at, literals_at, list_at, members_from, members, list_bits};
 
 use crate::refusal::Refusal;
@@ -12,11 +12,13 @@ use bits::width::Width;
 use bits::writer::Writer;
 use literals::set::{Literal, LiteralSet, contains, with};
 
-// A field, and the place of the bit after it.
+// A field, and the place of the bit after it. Not one function with the plan's, generic over the refusal: `From` says what it gives as a
+// relation, so an answer could not be told by equality.
 pub(crate) fn field(reader: &mut Reader, width: Width) -> Result<(u16, u128), Refusal>
     ensures value { result ≡ domain_field (bits_of reader.old.bytes.now) reader.old.place width.bits }
     ensures small { IfOk result (λ v. v.0 < 2 ^ width.bits) }
     ensures moved { Onward result reader.old reader.new }
+    ensures place { reader.new.place ≡ next_place result reader.old.place }
 {
     let read = reader.field(width)?;
     Ok(read)

@@ -57,7 +57,7 @@ impl Domain {
     }
 }
 
-// How many bits groups have.
+// How many bits groups have. Groups are words, which are no type of this crate's, so the trait cannot be theirs.
 fn lists_len(groups: &[LiteralSet]) -> usize
     requires { length groups.now ≤ 8 }
     ensures value { result ≡ length (flat_map (list_bits 4) groups.now) }
@@ -162,7 +162,7 @@ impl Packed for Kind {
 
     fn put(&self, writer: &mut Writer) -> Result<(), TooShort> {
         match self {
-            Kind::Working { effects } => put_effects(writer, effects.as_slice()),
+            Kind::Working { effects } => put_working(writer, effects.as_slice()),
             Kind::Sensing { fluent } => {
                 writer.put(u16::from(*fluent), Width::FIVE)?;
                 Ok(())
@@ -172,7 +172,7 @@ impl Packed for Kind {
 }
 
 // A count of effects, and the effects.
-fn put_effects(writer: &mut Writer, effects: &[Effect]) -> Result<(), TooShort>
+fn put_working(writer: &mut Writer, effects: &[Effect]) -> Result<(), TooShort>
     requires { length effects.now ≤ 8 }
     ensures { Wrote (is_ok result) (numeral 4 (length effects.now) ++ flat_map effect_bits effects.now) writer.old writer.new }
 {

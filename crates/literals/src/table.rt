@@ -102,7 +102,7 @@ fn each_covers(sets: &[u64], part: LiteralSet) -> bool
     sets.iter().all(|set| covers(*set, part))
 }
 
-// What both show, moment by moment.
+// What both show, moment by moment. The moments are what is gone through: a zip of the sets would name none.
 fn both(one: &Table, other: &Table) -> Table
     ensures { result.sets ≡ common one.now.sets other.now.sets }
 {

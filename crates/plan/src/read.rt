@@ -1,6 +1,6 @@
 ghost use Rattle.std.specs.Prelude.{◌≡◌, ◌^◌, ◌<◌, ◌∷◌, ◌++◌, [], length, IfOk};
 ghost use Rattle.bits.specs.Bits.{bits_of};
-ghost use Rattle.bits.specs.Fields.{Onward};
+ghost use Rattle.bits.specs.Fields.{next_place, Onward};
 ghost use Rattle.lists.specs.Lists.{items_of};
 ghost use Rattle.plan.specs.Layout.{plan_field, node_at, plan_at, read_plan};
 ghost use Rattle.plan.specs.Plans.{held, spelled};
@@ -101,6 +101,7 @@ fn field(reader: &mut Reader, width: Width) -> Result<(u16, u128), Refusal>
     ensures value { result ≡ plan_field (bits_of reader.old.bytes.now) reader.old.place width.bits }
     ensures small { IfOk result (λ v. v.0 < 2 ^ width.bits) }
     ensures moved { Onward result reader.old reader.new }
+    ensures place { reader.new.place ≡ next_place result reader.old.place }
 {
     let read = reader.field(width)?;
     Ok(read)

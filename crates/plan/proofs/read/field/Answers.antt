@@ -14,6 +14,7 @@ returns-in_err-read c =
       value = ap (refused_as Unread) told;
       small = tt;
       moved = record { bytes = search rules; place = search rules };
+      place = search rules;
     })
 
 pub returns : goal.returns
@@ -24,4 +25,5 @@ returns c =
       value = ap (refused_as Unread) told;
       small = search rules;
       moved = record { bytes = search rules; place = search rules };
+      place = search rules;
     }

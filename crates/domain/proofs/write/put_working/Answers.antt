@@ -2,7 +2,7 @@ use Rattle.std.proofs.lemmas.Result.{err_from_is_err_and}
 use Rattle.std.specs.List.{flat_map}
 use Rattle.bits.proofs.Laws.{wrote_then, wrote_refused}
 use Rattle.domain.specs.Layout.{effect_bits}
-use Rattle.domain.proofs.write.put_effects.Goals as goal
+use Rattle.domain.proofs.write.put_working.Goals as goal
 
 pub returns-in_err-put : goal.returns-in_err-put
 returns-in_err-put c =
