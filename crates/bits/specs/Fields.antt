@@ -1,6 +1,6 @@
 -- What reading and writing a field answer. A place counts bits from 0. Assumes nothing.
 use Rattle.std.specs.Prelude.{◌≡◌, ℕ, suc, ◌+◌, ◌-◌, ◌*◌, ◌%◌, ◌≤◌, Bool, true, false, cond, List, [], ◌∷◌, length, take, drop, Ok, Err, IfOk, Result, nat_le, nat_lt}
-use Rattle.bits.specs.Bits.{number, bytes_for, put, holding}
+use Rattle.bits.specs.Bits.{number, bytes_for, put, holding, packed}
 use Rattle.bits.specs.declared.reader.Reader.{Reader}
 use Rattle.bits.specs.declared.refusal.Refusal.{Refusal}
 use Rattle.bits.specs.declared.refusal.Refusal.TheVariants.{Ended, Trailing}
@@ -67,3 +67,7 @@ pub record Wrote (accepted : Bool) (bits : List Bool) (old new : Writer) : Type 
 -- writing bits from the start of a buffer; where there is room, the write is accepted and the buffer holds them
 pub record Filled (accepted : Bool) (bits : List Bool) (old new : List ℕ) : Type 0 where
   pub held : bytes_for (length bits) ≤ length old → (accepted ≡ true) × (new ≡ holding bits old)
+
+-- the answer to writing packed bits into a buffer of so many bytes: how many they take, or that these are too few
+abbrev pub packed_to : List Bool → ℕ → Result ℕ TooShort
+packed_to bits len = cond (nat_le (length (packed bits)) len) (Ok (length (packed bits))) (Err (record { needed = length (packed bits) }))

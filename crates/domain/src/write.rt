@@ -1,8 +1,8 @@
 // Domain sheets, written.
-ghost use Rattle.std.specs.Prelude.{◌≡◌, ◌≤◌, true, ◌++◌, length, drop, is_ok, if◌then◌else◌};
+ghost use Rattle.std.specs.Prelude.{◌≡◌, ◌≤◌, ◌++◌, length, drop, is_ok, if◌then◌else◌};
 ghost use Rattle.std.specs.List.{flat_map};
 ghost use Rattle.bits.specs.Bits.{numeral};
-ghost use Rattle.bits.specs.Fields.{Wrote, Filled};
+ghost use Rattle.bits.specs.Fields.{Wrote};
 ghost use Rattle.domain.specs.Domains.{sheet};
 ghost use Rattle.domain.specs.Layout.{effect_bits, kind_of, deed_bits, action_bits, domain_bits, written, written_to};
 ghost use Rattle.domain.specs.Lists.{list_bits};
@@ -12,7 +12,7 @@ ghost use Rattle.domain.specs.Rows.{action_in, deed_in};
 use crate::action::{Effect, Kind, Row};
 use crate::list::{list_len, put_list};
 use crate::record::Domain;
-use bits::packed::{Packed, packed_len, put_all};
+use bits::packed::{Packed, packed_len, put_all, write};
 use bits::refusal::TooShort;
 use bits::width::Width;
 use bits::writer::Writer;
@@ -25,35 +25,37 @@ impl Domain {
         ensures bytes { buffer.new ≡ (if is_ok result then written (sheet self.now) ++ drop (length (written (sheet self.now))) buffer.old else buffer.old) }
         ensures once { WrittenOnce (sheet self.now) }
     {
-        let needed = self.packed_len();
-        if buffer.len() < needed {
-            return Err(TooShort {
-                needed: needed as u128,
-            });
-        }
-        self.fill(buffer)?;
-        Ok(needed)
+        self.write_packed(buffer)
     }
 
-    // How many bytes the packed layout has.
-    fn packed_len(&self) -> usize
-        ensures value { result ≡ length (written (sheet self.now)) }
+    // The same, with its proof by hand, so that a wrong line of `write` is refused at that line.
+    fn write_packed(&self, buffer: &mut [u8]) -> Result<usize, TooShort>
+        ensures value { result ≡ written_to (sheet self.now) (length buffer.old) }
+        ensures bytes { buffer.new ≡ (if is_ok result then written (sheet self.now) ++ drop (length (written (sheet self.now))) buffer.old else buffer.old) }
         ensures once { WrittenOnce (sheet self.now) }
     {
+        write(self, buffer)
+    }
+}
+
+// The edition, the counts and the rest.
+impl Packed for Domain {
+    ghost bits = { λ domain. domain_bits (sheet domain) };
+
+    ghost most = { 62865 };
+
+    fn packed_len(&self) -> usize {
         let lists = list_len(Width::SIX, self.parts.initial)
             + list_len(Width::FOUR, self.parts.strong)
-            + list_len(Width::FOUR, self.parts.weak)
-            + lists_len(self.groups());
-        ((17 + lists as u128 + packed_len(self.rows()) + 7) / 8) as usize
+            + list_len(Width::FOUR, self.parts.weak);
+        17 + lists + lists_len(self.groups()) + packed_len(self.rows()) as usize
     }
 
-    // The packed layout in a buffer that has room for it.
-    fn fill(&self, buffer: &mut [u8]) -> Result<(), TooShort>
-        requires { length (written (sheet self.now)) ≤ length buffer.old }
-        ensures value { is_ok result ≡ true }
-        ensures bytes { buffer.new ≡ written (sheet self.now) ++ drop (length (written (sheet self.now))) buffer.old }
-    {
-        put_from_start(buffer, self)
+    fn put(&self, writer: &mut Writer) -> Result<(), TooShort> {
+        writer.put(1, Width::FOUR)?;
+        writer.put(u16::from(self.fluents() - 1), Width::FIVE)?;
+        writer.put(u16::from(self.actions() - 1), Width::FOUR)?;
+        put_facts(writer, self)
     }
 }
 
@@ -68,25 +70,6 @@ fn lists_len(groups: &[LiteralSet]) -> usize
         bits += list_len(Width::FOUR, *group);
     }
     bits
-}
-
-// The packed layout of a sheet, from the start of a buffer.
-fn put_from_start(buffer: &mut [u8], domain: &Domain) -> Result<(), TooShort>
-    ensures { Filled (is_ok result) (domain_bits (sheet domain.now)) buffer.old buffer.new }
-{
-    let mut writer = Writer::new(buffer);
-    put_domain(&mut writer, domain)
-}
-
-// The edition, the counts and the rest.
-fn put_domain(writer: &mut Writer, domain: &Domain) -> Result<(), TooShort>
-    ensures filled { writer.old.place ≡ 0 → Filled (is_ok result) (domain_bits (sheet domain.now)) writer.old.bytes.now writer.new.bytes.now }
-    ensures name { writer.new.bytes.ghost_name ≡ writer.old.bytes.ghost_name }
-{
-    writer.put(1, Width::FOUR)?;
-    writer.put(u16::from(domain.fluents() - 1), Width::FIVE)?;
-    writer.put(u16::from(domain.actions() - 1), Width::FOUR)?;
-    put_facts(writer, domain)
 }
 
 // The initial literals, the groups, the actions and the goals.

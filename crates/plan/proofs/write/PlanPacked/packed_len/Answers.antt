@@ -1,20 +1,19 @@
 use Rattle.std.proofs.Common.{length, ap, ◌∙◌, arith, length-append}
 use Rattle.std.specs.List.{flat_map}
 use Rattle.bits.specs.Bits.{numeral}
-use Rattle.bits.proofs.Laws.{length-numeral, length-packed}
-use Rattle.plan.specs.Layout.{node_bits, plan_bits, written}
+use Rattle.bits.proofs.Laws.{length-numeral}
+use Rattle.plan.specs.Layout.{node_bits}
 use Rattle.plan.specs.Plans.{plan_tree}
 use Rattle.plan.specs.Tree.{nodes_of}
-use Rattle.plan.proofs.Exact.{plan_once}
-use Rattle.plan.proofs.record.Plan.packed_len.Goals as goal
+use Rattle.plan.proofs.Exact.{plan_lawful}
+use Rattle.plan.proofs.write.PlanPacked.packed_len.Goals as goal
 
 pub returns-clause-value : goal.returns-clause-value
-unfolding written
 returns-clause-value c =
     let self = c.args.self.now in
     let long = length-append (numeral 4 1) (flat_map node_bits (nodes_of (plan_tree self))) in
     let bits = c.packed_len.ensures.value ∙ ap (λ nodes. length (flat_map node_bits nodes)) c.nodes.ensures in
-    rw (length-packed (plan_bits (plan_tree self))) (omega (arith, long, bits, length-numeral 4 1))
+    omega (arith, long, bits, length-numeral 4 1)
 
-pub returns-clause-once : goal.returns-clause-once
-returns-clause-once c = plan_once c.args.self.now
+pub returns-clause-few : goal.returns-clause-few
+returns-clause-few c = omega (arith, c.packed_len.ensures.few, ap length c.nodes.ensures, (plan_lawful c.args.self.now).few)
