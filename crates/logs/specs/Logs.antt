@@ -1,5 +1,5 @@
 -- What the records of a log hold. Assumes nothing.
-use Rattle.std.specs.Prelude.{ℕ, List, Ok, Err, Result}
+use Rattle.std.specs.Prelude.{◌≡◌, ℕ, List, Ok, Err, Result}
 use Rattle.literals.specs.Recorded.{recorded}
 use Rattle.literals.specs.declared.table.Table.{Table}
 use Rattle.domain.specs.Domains.{sheet}
@@ -13,6 +13,11 @@ use Rattle.logs.specs.declared.slip.Slip.{Slip}
 
 abbrev pub state_of : {R : Type 0} → Log R → State
 state_of log = record { sheet = sheet log.domain; orders = recorded log.state.orders; told = log.state.told.sets; owed = log.state.owed.moments }
+
+-- what a call leaves of a log: it holds this, and its reasoner stays
+pub record Leaves {R : Type 0} (st : State) (old new : Log R) : Type 0 where
+  pub moved : state_of new ≡ st
+  pub reasoner : new.reasoner ≡ old.reasoner
 
 -- an answer, with the sets of its table
 abbrev pub shown_by : {E : Type 0} → Result Table E → Result (List ℕ) E

@@ -5,7 +5,7 @@ ghost use Rattle.domain.specs.Accessors.{sensed_of};
 ghost use Rattle.domain.specs.Domains.{sheet};
 ghost use Rattle.logs.specs.Calls.{if_taken, history, senses, lacking, if_none_lacks, admitted, latest, ordering, ordered, looking, looked, telling, told_more, reporting, sensed_literal, answering, answered, losing, ended, opening, within, comparing};
 ghost use Rattle.logs.specs.Runs.{Decided, Compared, HistoryTrue, NeverFull};
-ghost use Rattle.logs.specs.Logs.{state_of, shown_by, slip_of, handed, opened_of, begun};
+ghost use Rattle.logs.specs.Logs.{state_of, Leaves, shown_by, slip_of, handed, opened_of, begun};
 ghost use Rattle.literals.specs.Tables.{is_full};
 ghost use Rattle.logs.specs.declared.refusal.Refusal.TheVariants.{Full};
 
@@ -81,8 +81,7 @@ impl<R: Reasoner> Log<R> {
     // One order of a working action more.
     pub fn order(&mut self, action: u8) -> Result<(), Refusal>
         ensures answered { result ≡ ordering (R.Reasoner.mind self.old.reasoner) (state_of self.old) action }
-        ensures moved { state_of self.new ≡ (if is_ok result then ordered (state_of self.old) action else state_of self.old) }
-        ensures reasoner { self.new.reasoner ≡ self.old.reasoner }
+        ensures left { Leaves (if is_ok result then ordered (state_of self.old) action else state_of self.old) self.old self.new }
     {
         self.admit(action, !is_sensing(&self.domain, action))?;
         self.state.enter(action);
@@ -93,8 +92,7 @@ impl<R: Reasoner> Log<R> {
     pub fn look(&mut self, action: u8) -> Result<Slip, Refusal>
         ensures answered { slip_of result ≡ handed action (latest (state_of self.old)) (looking (R.Reasoner.mind self.old.reasoner) (state_of self.old) action) }
         ensures early { IfOk result (λ slip. slip.moment < 32) }
-        ensures moved { state_of self.new ≡ (if is_ok result then looked (state_of self.old) action else state_of self.old) }
-        ensures reasoner { self.new.reasoner ≡ self.old.reasoner }
+        ensures left { Leaves (if is_ok result then looked (state_of self.old) action else state_of self.old) self.old self.new }
     {
         self.admit(action, is_sensing(&self.domain, action))?;
         let moment = self.state.look(action);
@@ -104,8 +102,7 @@ impl<R: Reasoner> Log<R> {
     // Any literal told at any moment up to now.
     pub fn report(&mut self, literal: Literal, moment: u8) -> Result<(), Refusal>
         ensures answered { result ≡ reporting (R.Reasoner.mind self.old.reasoner) (state_of self.old) literal moment }
-        ensures moved { state_of self.new ≡ (if is_ok result then told_more (state_of self.old) literal moment else state_of self.old) }
-        ensures reasoner { self.new.reasoner ≡ self.old.reasoner }
+        ensures left { Leaves (if is_ok result then told_more (state_of self.old) literal moment else state_of self.old) self.old self.new }
     {
         if literal / 2 >= self.domain.fluents() {
             return Err(Refusal::Unknown { number: literal });
@@ -119,8 +116,7 @@ impl<R: Reasoner> Log<R> {
     // What the owed look of an action at a moment saw.
     pub(crate) fn answer(&mut self, action: u8, moment: u8, seen: bool) -> Result<(), Refusal>
         ensures answered { result ≡ answering (R.Reasoner.mind self.old.reasoner) (state_of self.old) action moment seen }
-        ensures moved { state_of self.new ≡ (if is_ok result then answered (state_of self.old) action moment seen else state_of self.old) }
-        ensures reasoner { self.new.reasoner ≡ self.old.reasoner }
+        ensures left { Leaves (if is_ok result then answered (state_of self.old) action moment seen else state_of self.old) self.old self.new }
     {
         if !self.state.owes(action, moment) {
             return Err(Refusal::NotOwed);
@@ -136,8 +132,7 @@ impl<R: Reasoner> Log<R> {
     // The look of an action at a moment is over, with nothing told.
     pub(crate) fn end(&mut self, action: u8, moment: u8) -> Result<(), Refusal>
         ensures answered { result ≡ losing (state_of self.old) action moment }
-        ensures moved { state_of self.new ≡ (if is_ok result then ended (state_of self.old) moment else state_of self.old) }
-        ensures reasoner { self.new.reasoner ≡ self.old.reasoner }
+        ensures left { Leaves (if is_ok result then ended (state_of self.old) moment else state_of self.old) self.old self.new }
     {
         if !self.state.owes(action, moment) {
             return Err(Refusal::NotOwed);
@@ -170,8 +165,7 @@ impl<R: Reasoner> Log<R> {
     // One fact more, where it does not make the table full.
     pub(crate) fn tell(&mut self, literal: Literal, moment: u8) -> Result<(), Refusal>
         ensures answered { result ≡ telling (R.Reasoner.mind self.old.reasoner) (state_of self.old) literal moment }
-        ensures moved { state_of self.new ≡ (if is_ok result then told_more (state_of self.old) literal moment else state_of self.old) }
-        ensures reasoner { self.new.reasoner ≡ self.old.reasoner }
+        ensures left { Leaves (if is_ok result then told_more (state_of self.old) literal moment else state_of self.old) self.old self.new }
     {
         let mut told = self.state.told;
         told.tell(usize::from(moment), literal);

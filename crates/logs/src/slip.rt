@@ -1,7 +1,7 @@
 // Slips of looks.
 ghost use Rattle.std.specs.Prelude.{◌≡◌, ◌≤◌, is_ok, if◌then◌else◌};
 ghost use Rattle.logs.specs.Calls.{answering, answered, losing, ended};
-ghost use Rattle.logs.specs.Logs.{state_of, answered_of, handed_back};
+ghost use Rattle.logs.specs.Logs.{state_of, Leaves, answered_of, handed_back};
 
 use crate::log::Log;
 use crate::refusal::Refusal;
@@ -37,8 +37,7 @@ impl Slip {
     // The sensed fluent was seen true, or seen false, at the slip's moment. A refused answer hands the slip back.
     pub fn answer<R: Reasoner>(self, log: &mut Log<R>, seen: bool) -> Result<(), NotAnswered>
         ensures answered { answered_of result ≡ handed_back self.action self.moment (answering (R.Reasoner.mind log.old.reasoner) (state_of log.old) self.action self.moment seen) }
-        ensures moved { state_of log.new ≡ (if is_ok result then answered (state_of log.old) self.action self.moment seen else state_of log.old) }
-        ensures reasoner { log.new.reasoner ≡ log.old.reasoner }
+        ensures left { Leaves (if is_ok result then answered (state_of log.old) self.action self.moment seen else state_of log.old) log.old log.new }
     {
         let Slip { action, moment } = self;
         match log.answer(action, moment, seen) {
@@ -53,8 +52,7 @@ impl Slip {
     // Nothing was seen. The slip is ended in every case.
     pub fn lost<R: Reasoner>(self, log: &mut Log<R>) -> Result<(), Refusal>
         ensures answered { result ≡ losing (state_of log.old) self.action self.moment }
-        ensures moved { state_of log.new ≡ (if is_ok result then ended (state_of log.old) self.moment else state_of log.old) }
-        ensures reasoner { log.new.reasoner ≡ log.old.reasoner }
+        ensures left { Leaves (if is_ok result then ended (state_of log.old) self.moment else state_of log.old) log.old log.new }
     {
         let Self { action, moment } = self;
         log.end(action, moment)
