@@ -32,7 +32,7 @@ fn main(rt: HostRuntime) -> io::Result<()> {
 }
 
 // The bytes that a reader has left, up to their end or the buffer's. Of standard input no clause says which they are, and an error is the
-// reader's own.
+// reader's own. The library has no call that reads up to an end into a lent buffer.
 fn read_input<'a, R: Read>(reader: &mut R, buffer: &'a mut [u8]) -> io::Result<&'a [u8]>
     ensures long { IfOk result (λ bytes. length bytes.now ≤ length buffer.old) }
     ensures bytes { IfOk result (λ bytes. IfSome (R.remaining reader.old) (λ left. bytes.now ≡ take (length buffer.old) left)) }

@@ -1,4 +1,5 @@
-// Fields, literals and lists of literals.
+// Fields, literals and lists of literals. The number of fluents goes beside the reader: as a field of what is lent, each function would
+// have to promise that it stays.
 ghost use Rattle.std.specs.Prelude.{◌≡◌, ◌/◌, ◌^◌, ◌<◌, ◌≤◌, length, is_ok, IfOk};
 ghost use Rattle.std.specs.List.{flat_map};
 ghost use Rattle.bits.specs.Bits.{bits_of, numeral};

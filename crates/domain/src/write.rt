@@ -59,7 +59,8 @@ impl Packed for Domain {
     }
 }
 
-// How many bits groups have. Groups are words, which are no type of this crate's, so the trait cannot be theirs.
+// How many bits groups have. Groups are words, which are no type of this crate's, so the trait cannot be theirs. A slice says no bound,
+// so a function of one asks for it, and a loop states its own as it goes: a sum would ask for that of the whole list beforehand.
 fn lists_len(groups: &[LiteralSet]) -> usize
     requires { length groups.now ≤ 8 }
     ensures value { result ≡ length (flat_map (list_bits 4) groups.now) }

@@ -17,7 +17,8 @@ use literals::set::{Literal, lowest, without};
 use literals::table::Table;
 use reasoner::reasoner::Reasoner;
 
-// What was ordered, looked at and told of a domain, and the reasoner that works out what is known.
+// What was ordered, looked at and told of a domain, and the reasoner that works out what is known. It has no `Model`: one that forgets
+// fields may not be `Copy`, and a log is.
 #[derive(Clone, Copy)]
 pub struct Log<R> {
     reasoner: R,

@@ -10,7 +10,8 @@ use literals::orders::Orders;
 use literals::set::all;
 use literals::table::Table;
 
-// The told facts that count: those of the domain's fluents, at moments up to now.
+// The told facts that count: those of the domain's fluents, at moments up to now. The moments are what is gone through: a zip of the sets
+// would name none.
 pub fn counted(domain: &Domain, orders: &Orders, told: &Table) -> Table
     ensures { result.sets ≡ told_from (sheet domain.now).fluents told.now.sets (suc (length (recorded orders.now))) 0 empty }
 {
