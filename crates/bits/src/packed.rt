@@ -70,24 +70,8 @@ fn put_first<T: Packed>(value: &T, writer: &mut Writer) -> Result<(), TooShort>
     value.put(writer)
 }
 
-// How many bits the items have.
+// How many bits the items have. A loop, since it states its bound as it goes: a sum would ask for that of the whole list beforehand.
 pub fn packed_len<T: Packed>(items: &[T]) -> u128
-    ensures value { result ≡ length (flat_map T.bits items.now) }
-    ensures few { result ≤ T.most * length items.now }
-{
-    total_len(items)
-}
-
-// The items in sequence.
-pub fn put_all<T: Packed>(writer: &mut Writer, items: &[T]) -> Result<(), TooShort>
-    ensures { Wrote (is_ok result) (flat_map T.bits items.now) writer.old writer.new }
-{
-    put_each(writer, items)
-}
-
-// The same, with its proof by hand, so that a wrong line of `packed_len` is refused at that line. A loop, since it states its bound as
-// it goes: a sum would ask for that of the whole list beforehand.
-fn total_len<T: Packed>(items: &[T]) -> u128
     ensures value { result ≡ length (flat_map T.bits items.now) }
     ensures few { result ≤ T.most * length items.now }
 {
@@ -96,6 +80,13 @@ fn total_len<T: Packed>(items: &[T]) -> u128
         bits += item.packed_len() as u128;
     }
     bits
+}
+
+// The items in sequence.
+pub fn put_all<T: Packed>(writer: &mut Writer, items: &[T]) -> Result<(), TooShort>
+    ensures { Wrote (is_ok result) (flat_map T.bits items.now) writer.old writer.new }
+{
+    put_each(writer, items)
 }
 
 // The same, with its proof by hand, so that a wrong line of `put_all` is refused at that line.

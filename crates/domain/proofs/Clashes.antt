@@ -1,4 +1,4 @@
--- One turn of each loop of the exclusion test. Assumes nothing.
+-- The exclusion test: an effect against the earlier ones, and one turn of the loop over the effects. Assumes nothing.
 use Rattle.std.proofs.Common.{◌≡◌, ℕ, ◌+◌, ◌<◌, ◌≤◌, Bool, true, false, cond, not, ◌&&◌, ◌||◌, List, [], ◌∷◌, ◌++◌, length, get_or, take, drop, Some, None, Option, sym, refl, ap, ◌∙◌}
 use Rattle.std.proofs.lemmas.List.{take_more, drop_more, drop_all}
 use Rattle.std.specs.List.{list_any}

@@ -115,7 +115,7 @@ fn literals(reader: &mut Reader, fluents: u8, count: u8) -> Result<(LiteralSet, 
 {
     let mut set = 0;
     let mut least = 0;
-    for _i in 0..count {
+    for _ in 0..count {
         let (next, _) = literal(reader, fluents, least)?;
         set = with(set, next);
         least = (next / 2 + 1) * 2;
@@ -147,7 +147,8 @@ pub(crate) fn members(set: LiteralSet) -> u8
     (0..64).filter(|literal| contains(set, *literal)).count() as u8
 }
 
-// The members of a set in rising sequence.
+// The members of a set in rising sequence. The literals are gone through, and not a filter of them: by a literal the proof says which
+// members are put so far.
 fn put_members(writer: &mut Writer, set: LiteralSet) -> Result<(), TooShort>
     ensures { Wrote (is_ok result) (flat_map (numeral 6) (members set)) writer.old writer.new }
 {

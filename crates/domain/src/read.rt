@@ -30,7 +30,7 @@ impl Domain {
     }
 }
 
-// The parts of a lawful sheet, which fills the bytes.
+// The parts of a lawful sheet, which fills the bytes. Not one function with the plan's, for the same reason as `field`.
 fn whole(bytes: &[u8]) -> Result<Parts, Refusal>
     ensures value { spelled result ≡ read_domain bytes.now }
     ensures lawful { IfOk result (λ d. is_lawful (parts_sheet d) ≡ true) }
@@ -88,7 +88,7 @@ fn groups(
     ensures moved { Onward result reader.old reader.new }
 {
     let mut groups = FixedList::empty(0);
-    for _i in 0..count {
+    for _ in 0..count {
         let (next, _) = list(reader, fluents, GROUP)?;
         groups.push(next);
     }

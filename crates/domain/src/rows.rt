@@ -64,7 +64,8 @@ fn working(
     }
 }
 
-// The first bit of the earliest effect that clashes with an earlier one; the effects' count stands at the place.
+// The first bit of the earliest effect that clashes with an earlier one; the effects' count stands at the place. Each effect is compared
+// with every earlier one, as the layout says it, and the place runs along.
 fn first_clash(effects: &[Effect], count_place: u128) -> Option<u128>
     requires few { length effects.now ≤ 8 }
     requires fits { count_place ≤ 2 ^ 67 }
@@ -119,7 +120,7 @@ fn effects(
     };
     let mut effects = FixedList::empty(nothing);
     let mut least = 0;
-    for _i in 0..count {
+    for _ in 0..count {
         let (next, _) = effect(reader, fluents, least)?;
         effects.push(next);
         least = next.literal + 1;

@@ -3,6 +3,7 @@ ghost use Rattle.std.specs.Prelude.{◌≡◌, ◌≤◌, ◌++◌, length, drop
 ghost use Rattle.std.specs.List.{flat_map};
 ghost use Rattle.bits.specs.Bits.{numeral};
 ghost use Rattle.bits.specs.Fields.{Wrote};
+ghost use Rattle.lists.specs.Lists.{items_of};
 ghost use Rattle.domain.specs.Domains.{sheet};
 ghost use Rattle.domain.specs.Layout.{effect_bits, kind_of, deed_bits, action_bits, domain_bits, written, written_to};
 ghost use Rattle.domain.specs.Lists.{list_bits};
@@ -16,6 +17,7 @@ use bits::packed::{Packed, packed_len, put_all, write};
 use bits::refusal::TooShort;
 use bits::width::Width;
 use bits::writer::Writer;
+use lists::fixed_list::FixedList;
 use literals::set::LiteralSet;
 
 impl Domain {
@@ -59,8 +61,8 @@ impl Packed for Domain {
     }
 }
 
-// How many bits groups have. Groups are words, which are no type of this crate's, so the trait cannot be theirs. A slice says no bound,
-// so a function of one asks for it, and a loop states its own as it goes: a sum would ask for that of the whole list beforehand.
+// How many bits groups have. Groups are words, which are no type of this crate's, so the trait cannot be theirs. The loop states
+// its bound as it goes: a sum would ask for that of the whole list beforehand.
 fn lists_len(groups: &[LiteralSet]) -> usize
     requires { length groups.now ≤ 8 }
     ensures value { result ≡ length (flat_map (list_bits 4) groups.now) }
@@ -78,22 +80,22 @@ fn put_facts(writer: &mut Writer, domain: &Domain) -> Result<(), TooShort>
     ensures { Wrote (is_ok result) (list_bits 6 (sheet domain.now).initial ++ ((numeral 4 (length (sheet domain.now).groups) ++ flat_map (list_bits 4) (sheet domain.now).groups) ++ (flat_map action_bits (sheet domain.now).actions ++ (list_bits 4 (sheet domain.now).strong ++ list_bits 4 (sheet domain.now).weak)))) writer.old writer.new }
 {
     put_list(writer, Width::SIX, domain.parts.initial)?;
-    put_groups(writer, domain.groups())?;
+    put_groups(writer, &domain.parts.groups)?;
     put_all(writer, domain.rows())?;
     put_list(writer, Width::FOUR, domain.parts.strong)?;
     put_list(writer, Width::FOUR, domain.parts.weak)
 }
 
 // A count of groups, and the groups.
-fn put_groups(writer: &mut Writer, groups: &[LiteralSet]) -> Result<(), TooShort>
-    requires { length groups.now ≤ 8 }
-    ensures { Wrote (is_ok result) (numeral 4 (length groups.now) ++ flat_map (list_bits 4) groups.now) writer.old writer.new }
+fn put_groups(writer: &mut Writer, groups: &FixedList<LiteralSet, 8>) -> Result<(), TooShort>
+    ensures { Wrote (is_ok result) (numeral 4 (length (items_of groups.now)) ++ flat_map (list_bits 4) (items_of groups.now)) writer.old writer.new }
 {
+    let groups = groups.as_slice();
     writer.put(groups.len() as u16, Width::FOUR)?;
     put_lists(writer, groups)
 }
 
-// Groups in sequence.
+// Groups in sequence. Groups are words, so this is no instance of `put_all`.
 fn put_lists(writer: &mut Writer, groups: &[LiteralSet]) -> Result<(), TooShort>
     ensures { Wrote (is_ok result) (flat_map (list_bits 4) groups.now) writer.old writer.new }
 {
@@ -146,7 +148,7 @@ impl Packed for Kind {
 
     fn put(&self, writer: &mut Writer) -> Result<(), TooShort> {
         match self {
-            Kind::Working { effects } => put_working(writer, effects.as_slice()),
+            Kind::Working { effects } => put_working(writer, effects),
             Kind::Sensing { fluent } => {
                 writer.put(u16::from(*fluent), Width::FIVE)?;
                 Ok(())
@@ -156,10 +158,10 @@ impl Packed for Kind {
 }
 
 // A count of effects, and the effects.
-fn put_working(writer: &mut Writer, effects: &[Effect]) -> Result<(), TooShort>
-    requires { length effects.now ≤ 8 }
-    ensures { Wrote (is_ok result) (numeral 4 (length effects.now) ++ flat_map effect_bits effects.now) writer.old writer.new }
+fn put_working(writer: &mut Writer, effects: &FixedList<Effect, 8>) -> Result<(), TooShort>
+    ensures { Wrote (is_ok result) (numeral 4 (length (items_of effects.now)) ++ flat_map effect_bits (items_of effects.now)) writer.old writer.new }
 {
+    let effects = effects.as_slice();
     writer.put(effects.len() as u16, Width::FOUR)?;
     put_all(writer, effects)
 }

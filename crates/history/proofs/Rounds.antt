@@ -1,4 +1,4 @@
--- One turn of each loop of the sweeps. Assumes nothing.
+-- One order or look of a pass, and one sweep more. Assumes nothing.
 use Rattle.std.proofs.Common.{◌≡◌, ℕ, zero, suc, ◌+◌, ◌<◌, true, false, not, ◌≢◌, List, [], refl, sym, ◌∙◌, ⊎_elim, arith}
 use Rattle.std.proofs.lemmas.Bool.{both_ways, not-true, not-false}
 use Rattle.literals.specs.Recorded.{recorded}

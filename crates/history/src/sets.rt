@@ -51,7 +51,7 @@ fn coming(facts: LiteralSet, effect: &Effect) -> LiteralSet
     }
 }
 
-// The literals of the open effects.
+// The literals of the open effects. The fold of those that fire, in the world reasoner, joins other literals: what both share is this line.
 pub(crate) fn may_come(effects: &[Effect], facts: LiteralSet) -> LiteralSet
     ensures { result ≡ may_come effects.now facts }
 {

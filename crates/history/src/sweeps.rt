@@ -12,7 +12,8 @@ use domain::record::Domain;
 use literals::orders::Orders;
 use literals::table::Table;
 
-// Sweeps until one adds nothing. Each that adds leaves less room for more, so they come to an end.
+// Sweeps until one adds nothing. Each that adds leaves less room for more, so they come to an end. The domain and the orders go beside the
+// table, which alone changes: in one value with it, each function would have to promise that they stay.
 pub(crate) fn close(domain: &Domain, orders: &Orders, table: &mut Table)
     ensures { table.new.sets ≡ sweeps (sheet domain.now) (recorded orders.now) (room table.old.sets) table.old.sets }
 {

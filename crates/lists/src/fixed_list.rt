@@ -2,7 +2,8 @@ ghost use Rattle.std.specs.Prelude.{◌≡◌, ◌≤◌, [], ◌∷◌, ◌++�
 
 use std::alloc::AllocError;
 
-// A list of at most N items, which lie in the value itself. Places past the count hold items that do not count.
+// A list of at most N items, which lie in the value itself. Places past the count hold items that do not count. It is `Copy`, as the
+// library's vector of fixed capacity is not, and so are the records that hold it.
 #[derive(Drop)]
 pub struct FixedList<T, const N: usize> {
     pub table: [T; N],
@@ -11,6 +12,7 @@ pub struct FixedList<T, const N: usize> {
     ghost long: { length table ≡ N },
 }
 
+// By hand: tried as a derive, which is refused over the ghost fields.
 impl<T: Copy, const N: usize> Clone for FixedList<T, N> {
     ghost is_clone = { λ s r. r ≡ s };
 

@@ -1,4 +1,4 @@
-// Slices changed at an index that may be past their end.
+// Slices changed at an index that may be past their end. A function, since the library's `get_mut` does not say what the slice ends as.
 ghost use Rattle.std.specs.Prelude.{◌≡◌, slice_set};
 
 // Another item at an index; past the end nothing changes.

@@ -102,7 +102,8 @@ fn each_covers(sets: &[u64], part: LiteralSet) -> bool
     sets.iter().all(|set| covers(*set, part))
 }
 
-// What both show, moment by moment. The moments are what is gone through: a zip of the sets would name none.
+// What both show, moment by moment, with its proof by hand, so that a wrong line of `common` is refused at that line. A zip of the sets is
+// no plainer: the moments are what the table is about.
 fn both(one: &Table, other: &Table) -> Table
     ensures { result.sets ≡ common one.now.sets other.now.sets }
 {

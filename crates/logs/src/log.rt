@@ -152,7 +152,7 @@ impl<R: Reasoner> Log<R> {
         self.fill(table)
     }
 
-    // The history, that it is true, and that a log that was opened is never full.
+    // The same, with its proof by hand, so that a wrong line of `show` is refused at that line.
     fn fill(&self, table: &mut Table) -> Result<(), Refusal>
         ensures value { result ≡ if_taken (R.Reasoner.mind self.now.reasoner) (state_of self.now) (Ok tt) }
         ensures table { table.new.sets ≡ (if is_ok result then history (R.Reasoner.mind self.now.reasoner) (state_of self.now) else table.old.sets) }
@@ -233,7 +233,7 @@ pub fn compare<R: Reasoner, S: Reasoner>(one: &Log<R>, other: &Log<S>) -> Result
     each_shows(one, other)
 }
 
-// The same, with what it means for the histories.
+// The same, with its proof by hand, so that a wrong line of `compare` is refused at that line.
 fn each_shows<R: Reasoner, S: Reasoner>(one: &Log<R>, other: &Log<S>) -> Result<bool, Refusal>
     ensures value { result ≡ comparing (R.Reasoner.mind one.now.reasoner) (S.Reasoner.mind other.now.reasoner) (state_of one.now) (state_of other.now) }
     ensures decided { IfOk result (λ b. Decided b (R.Reasoner.mind one.now.reasoner) (S.Reasoner.mind other.now.reasoner) (state_of one.now) (state_of other.now)) }

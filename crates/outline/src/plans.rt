@@ -28,7 +28,7 @@ impl fmt::Display for Outline<'_> {
     }
 }
 
-// The nodes of a plan, the index of the next one to print, and how many ends are before it.
+// The nodes of a plan, the index of the next one to print, and how many ends are before it. The index is the number that is printed.
 #[derive(Clone, Copy)]
 struct Lines<'a> {
     nodes: &'a [Node],

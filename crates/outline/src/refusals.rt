@@ -23,19 +23,19 @@ impl fmt::Display for Refused {
             Refused::Input(_) => f.write_str(
                 "The input ends before the domain does: first come two bytes with the domain's length, then the domain, then the plan.\n",
             ),
-            Refused::Domain(refusal) => write!(f, "{}", DomainFault { refusal: *refusal }),
-            Refused::Plan(refusal) => write!(f, "{}", PlanFault { refusal: *refusal }),
+            Refused::Domain(refusal) => write!(f, "{}", Fault { refusal: *refusal }),
+            Refused::Plan(refusal) => write!(f, "{}", Fault { refusal: *refusal }),
         }
     }
 }
 
-// What bytes should have been.
+// What is wrong with bytes, a domain or a plan, and what it should have been.
 #[derive(Clone, Copy)]
-struct BytesFault {
-    refusal: bits::refusal::Refusal,
+struct Fault<R> {
+    refusal: R,
 }
 
-impl fmt::Display for BytesFault {
+impl fmt::Display for Fault<bits::refusal::Refusal> {
     fn fmt<W: fmt::Write>(&self, f: &mut Formatter<W>) -> fmt::Result {
         match self.refusal {
             bits::refusal::Refusal::Ended { place } => writeln!(
@@ -50,16 +50,10 @@ impl fmt::Display for BytesFault {
     }
 }
 
-// What is wrong with a domain.
-#[derive(Clone, Copy)]
-struct DomainFault {
-    refusal: domain::refusal::Refusal,
-}
-
-impl fmt::Display for DomainFault {
+impl fmt::Display for Fault<domain::refusal::Refusal> {
     fn fmt<W: fmt::Write>(&self, f: &mut Formatter<W>) -> fmt::Result {
         match self.refusal {
-            domain::refusal::Refusal::Unread(refusal) => write!(f, "{}", BytesFault { refusal }),
+            domain::refusal::Refusal::Unread(refusal) => write!(f, "{}", Fault { refusal }),
             domain::refusal::Refusal::Edition { place } => writeln!(
                 f,
                 "The edition at bit {place} is not 1."
@@ -84,16 +78,10 @@ impl fmt::Display for DomainFault {
     }
 }
 
-// What is wrong with a plan.
-#[derive(Clone, Copy)]
-struct PlanFault {
-    refusal: plan::refusal::Refusal,
-}
-
-impl fmt::Display for PlanFault {
+impl fmt::Display for Fault<plan::refusal::Refusal> {
     fn fmt<W: fmt::Write>(&self, f: &mut Formatter<W>) -> fmt::Result {
         match self.refusal {
-            plan::refusal::Refusal::Unread(refusal) => write!(f, "{}", BytesFault { refusal }),
+            plan::refusal::Refusal::Unread(refusal) => write!(f, "{}", Fault { refusal }),
             plan::refusal::Refusal::Edition { place } => writeln!(
                 f,
                 "The edition at bit {place} is not 1."

@@ -5,7 +5,7 @@
 
 ghost use Rattle.std.specs.Prelude.{◌≡◌, ◌&&◌, nat_lt, is_ok, if◌then◌else◌};
 ghost use Rattle.literals.specs.Tables.{empty};
-ghost use Rattle.reasoner.specs.Asking.{question, answer_to};
+ghost use Rattle.reasoner.specs.Asking.{asked, answer_to};
 
 use bits::reader::Reader;
 use bits::width::Width;
@@ -13,6 +13,7 @@ use domain::record::Domain;
 use history::history::History;
 use literals::orders::Orders;
 use literals::table::Table;
+use reasoner::question::Question;
 use reasoner::reasoner::Reasoner;
 use std::io;
 use std::io::Read;
@@ -37,13 +38,18 @@ fn main(rt: HostRuntime) -> io::Result<()> {
     for fluent in 0..32 {
         told.tell(32, 2 * fluent);
     }
+    let question = Question {
+        domain: &domain,
+        orders: &orders,
+        told: &told,
+    };
     let history = History {};
     let worlds = AllWorlds {};
     let (largest, table) = if domain.fluents() > worlds.largest() {
-        let table = asked(&history, times, &domain, &orders, &told);
+        let table = shown(&history, times, &question);
         (history.largest(), table)
     } else {
-        let table = asked(&worlds, times, &domain, &orders, &told);
+        let table = shown(&worlds, times, &question);
         (worlds.largest(), table)
     };
     let first = table.at(0);
@@ -53,18 +59,12 @@ fn main(rt: HostRuntime) -> io::Result<()> {
 }
 
 // What a reasoner shows that is asked so many times; where it is not asked, or refuses the domain, nothing.
-fn asked<R: Reasoner>(
-    reasoner: &R,
-    times: u16,
-    domain: &Domain,
-    orders: &Orders,
-    told: &Table,
-) -> Table
-    ensures { let asked = question domain.now orders.now told.now in result.sets ≡ (if nat_lt 0 times && is_ok (answer_to (R.mind reasoner.now) asked) then (R.mind reasoner.now).meaning asked else empty) }
+fn shown<R: Reasoner>(reasoner: &R, times: u16, question: &Question) -> Table
+    ensures { result.sets ≡ (if nat_lt 0 times && is_ok (answer_to (R.mind reasoner.now) (asked question.now)) then (R.mind reasoner.now).meaning (asked question.now) else empty) }
 {
     let mut table = Table::empty();
     for _ in 0..times {
-        let _ = reasoner.ask(domain, orders, told, &mut table);
+        let _ = reasoner.ask(question.domain, question.orders, question.told, &mut table);
     }
     table
 }

@@ -25,7 +25,7 @@ impl Plan {
     }
 }
 
-// The nodes of a whole plan, which fill the bytes.
+// The nodes of a whole plan, which fill the bytes. Not one function with the domain's, for the same reason as `field`.
 fn whole(bytes: &[u8]) -> Result<Nodes, Refusal>
     ensures value { spelled result ≡ read_plan bytes.now }
     ensures lawful { IfOk result (λ n. Whole (items_of n)) }
@@ -59,7 +59,7 @@ fn subplan(reader: &mut Reader, nodes: &mut Nodes, remaining: u8) -> Result<(), 
     }
 }
 
-// One node more.
+// One node more; its contract says that there is room, which the list's own cannot.
 fn push(nodes: &mut Nodes, node: Node)
     requires { length (items_of nodes.old) < 255 }
     ensures { items_of nodes.new ≡ items_of nodes.old ++ node ∷ [] }
@@ -96,7 +96,8 @@ fn node(reader: &mut Reader, count: usize, remaining: u8) -> Result<(Node, u128)
     }
 }
 
-// A field of the plan, and the place of the bit after it.
+// A field of the plan, and the place of the bit after it. Not one function with the domain's, generic over the refusal: `From` says what it
+// gives as a relation, so an answer could not be told by equality.
 fn field(reader: &mut Reader, width: Width) -> Result<(u16, u128), Refusal>
     ensures value { result ≡ plan_field (bits_of reader.old.bytes.now) reader.old.place width.bits }
     ensures small { IfOk result (λ v. v.0 < 2 ^ width.bits) }

@@ -5,7 +5,7 @@ ghost use Rattle.plan.specs.Tree.{tree_of, nodes_of, depth, small_actions};
 use crate::node::Node;
 use lists::fixed_list::FixedList;
 
-// Nodes in sequence.
+// Nodes in sequence, and not in boxes: a node's number is its index, and the library allocates nothing.
 pub(crate) type Nodes = FixedList<Node, 255>;
 
 // A whole plan: its nodes in sequence, at most 32 orders and looks deep on any way.

@@ -73,7 +73,7 @@ impl Packed for Node {
     }
 }
 
-// A tag and an action more.
+// A tag and an action more. The tag is the layout's number of the kind of node: an enum of tags would be `Node` again.
 fn put_action(writer: &mut Writer, tag: u16, action: u8) -> Result<(), TooShort>
     ensures { Wrote (is_ok result) (numeral 2 tag ++ numeral 4 action) writer.old writer.new }
 {

@@ -19,7 +19,8 @@ pub trait Reasoner {
     fn largest(&self) -> u8
         ensures { result ≡ (mind self.now).largest };
 
-    // Fills the table with what it shows of the domain, the orders and looks so far and the told facts; of a domain with more fluents than it takes, nothing.
+    // Fills the table with what it shows of the domain, the orders and looks so far and the told facts; of a domain with more fluents than
+    // it takes, nothing.
     fn ask(
         &self,
         domain: &Domain,

@@ -10,8 +10,8 @@ use literals::orders::Orders;
 use literals::set::all;
 use literals::table::Table;
 
-// The told facts that count: those of the domain's fluents, at moments up to now. The moments are what is gone through: a zip of the sets
-// would name none.
+// The told facts that count: those of the domain's fluents, at moments up to now. A zip of the sets is no
+// plainer: the moments are what the table is about.
 pub fn counted(domain: &Domain, orders: &Orders, told: &Table) -> Table
     ensures { result.sets ≡ told_from (sheet domain.now).fluents told.now.sets (suc (length (recorded orders.now))) 0 empty }
 {

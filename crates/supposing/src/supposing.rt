@@ -12,7 +12,8 @@ use reasoner::question::Question;
 use reasoner::reasoner::Reasoner;
 use reasoner::refusal::TooManyFluents;
 
-// It asks the reasoner below with the fluent told true and told false at moment 0, and shows what both tables have. A fluent outside the domain is not supposed.
+// It asks the reasoner below with the fluent told true and told false at moment 0, and shows what both tables have. A fluent outside the
+// domain is not supposed.
 #[derive(Clone, Copy)]
 pub struct Supposing<R> {
     pub below: R,

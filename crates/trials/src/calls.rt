@@ -18,7 +18,7 @@ mod tests {
     // Fluent 0 is "in basin", false at first, 1 is "gate open"; action 0 goes in if the gate is open, action 1 senses fluent 0.
     const WORKED: [u8; 10] = [0x10, 0x88, 0x20, 0x00, 0x04, 0x86, 0x0c, 0x00, 0x02, 0x08];
 
-    // A refusal's number, and 0 for none.
+    // A refusal's number, and 0 for none, which is no refusal's: the tests below say it plainly.
     fn number(answer: Result<(), Refusal>) -> u8 {
         match answer {
             Ok(()) => 0,

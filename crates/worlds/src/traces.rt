@@ -9,7 +9,7 @@ use literals::set::{LiteralSet, all, covers, with};
 use literals::table::Table;
 use reasoner::question::Question;
 
-// The states at all moments of the world that starts in a state.
+// The states at all moments of the world that starts in a state. It fills a table as it goes, and so is no fold of the state.
 fn trace(question: &Question, first: LiteralSet) -> Table
     ensures { result.sets ≡ trace (asked question.now) first }
 {

@@ -1,5 +1,4 @@
 use Rattle.std.proofs.Common.{◌+◌, drop, ap}
-use Rattle.std.proofs.lemmas.List.{take_all}
 use Rattle.std.proofs.lemmas.Result.{err_from_is_err_and}
 use Rattle.std.specs.List.{flat_map}
 use Rattle.bits.proofs.Joins.{joined-take, joined_split}
@@ -22,9 +21,3 @@ pub loop-item-preserved : goal.loop-item-preserved
 loop-item-preserved g c =
     let bits = g.T.Packed.bits in
     wrote_as (joined-take bits c.args.items.now c.loop-item.item-index c.item-item.result c.loop-item-test.true) (wrote_then c.loop-item.invariant (wrote_as (ap bits c.item-item.is) c.in_ok-put.ensures))
-
-pub returns : goal.returns
-returns g c =
-    let bits = g.T.Packed.bits in
-    let all = take_all c.loop-item.item-index c.args.items.now c.loop-item-test.false in
-    wrote_as (ap (flat_map bits) all) c.loop-item.invariant

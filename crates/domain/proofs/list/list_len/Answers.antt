@@ -6,13 +6,10 @@ use Rattle.domain.specs.Lists.{members, list_bits}
 use Rattle.domain.proofs.ListSteps.{literals_long}
 use Rattle.domain.proofs.list.list_len.Goals as goal
 
-pub returns : goal.returns
+pub returns-clause-value : goal.returns-clause-value
 unfolding list_bits
-returns c =
+returns-clause-value c =
     let set = c.args.set in
     let w = c.args.width.bits in
     let long = length-append (numeral w (length (members set))) (flat_map (numeral 6) (members set)) in
-    record {
-      value = omega (arith, length-numeral w (length (members set)), literals_long (members set));
-      few = omega (arith, c.args.width.few, c.members.ensures.few);
-    }
+    omega (arith, length-numeral w (length (members set)), literals_long (members set))

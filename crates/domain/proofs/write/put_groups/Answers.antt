@@ -1,13 +1,7 @@
-use Rattle.std.proofs.lemmas.Result.{err_from_is_err_and}
-use Rattle.std.specs.List.{flat_map}
-use Rattle.bits.proofs.Laws.{wrote_then, wrote_refused}
-use Rattle.domain.specs.Lists.{list_bits}
+use Rattle.std.proofs.Common.{ap}
+use Rattle.bits.proofs.Laws.{wrote_then, wrote_as}
+use Rattle.domain.proofs.RowParts.{group_bits}
 use Rattle.domain.proofs.write.put_groups.Goals as goal
 
-pub returns-in_err-put : goal.returns-in_err-put
-returns-in_err-put c =
-    let p = err_from_is_err_and c.from_residual.result c.from_residual.ensures.1 in
-    rw p.1 (wrote_refused (flat_map (list_bits 4) c.args.groups.now) c.in_err-put.ensures.wrote)
-
 pub returns : goal.returns
-returns c = wrote_then c.in_ok-put.ensures.wrote c.put_lists.ensures
+returns c = wrote_as (ap group_bits c.as_slice-groups.ensures.items) (wrote_then c.in_ok-put.ensures.wrote c.put_lists.ensures)

@@ -1,5 +1,4 @@
-use Rattle.std.proofs.Common.{◌+◌, drop, ap}
-use Rattle.std.proofs.lemmas.List.{take_all}
+use Rattle.std.proofs.Common.{◌+◌, drop}
 use Rattle.std.proofs.lemmas.Result.{err_from_is_err_and}
 use Rattle.std.specs.List.{flat_map}
 use Rattle.bits.proofs.Laws.{wrote_then, wrote_refused, wrote_none, wrote_as, joined-take, joined_split}
@@ -20,8 +19,3 @@ returns-in_err-put_list c =
 pub loop-group-preserved : goal.loop-group-preserved
 loop-group-preserved c =
     wrote_as (joined-take (list_bits 4) c.args.groups.now c.loop-group.group-index 0 c.loop-group-test.true) (wrote_then c.loop-group.invariant c.in_ok-put_list.ensures)
-
-pub returns : goal.returns
-returns c =
-    let all = take_all c.loop-group.group-index c.args.groups.now c.loop-group-test.false in
-    wrote_as (ap (flat_map (list_bits 4)) all) c.loop-group.invariant

@@ -4,8 +4,8 @@ use Rattle.bits.proofs.Laws.{length-numeral}
 use Rattle.domain.specs.Lists.{list_bits}
 use Rattle.domain.proofs.write.EffectPacked.packed_len.Goals as goal
 
-pub returns : goal.returns
-returns c =
+pub returns-clause-value : goal.returns-clause-value
+returns-clause-value c =
     let e = c.args.self.now in
     let long = length-append (list_bits 3 e.conditions) (numeral 6 e.literal) in
-    record { value = omega (arith, length-numeral 6 e.literal); few = omega arith }
+    omega (arith, length-numeral 6 e.literal)

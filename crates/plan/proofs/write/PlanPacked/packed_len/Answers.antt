@@ -5,7 +5,6 @@ use Rattle.bits.proofs.Laws.{length-numeral}
 use Rattle.plan.specs.Layout.{node_bits}
 use Rattle.plan.specs.Plans.{plan_tree}
 use Rattle.plan.specs.Tree.{nodes_of}
-use Rattle.plan.proofs.Exact.{plan_lawful}
 use Rattle.plan.proofs.write.PlanPacked.packed_len.Goals as goal
 
 pub returns-clause-value : goal.returns-clause-value
@@ -14,6 +13,3 @@ returns-clause-value c =
     let long = length-append (numeral 4 1) (flat_map node_bits (nodes_of (plan_tree self))) in
     let bits = c.packed_len.ensures.value ∙ ap (λ nodes. length (flat_map node_bits nodes)) c.nodes.ensures in
     omega (arith, long, bits, length-numeral 4 1)
-
-pub returns-clause-few : goal.returns-clause-few
-returns-clause-few c = omega (arith, c.packed_len.ensures.few, ap length c.nodes.ensures, (plan_lawful c.args.self.now).few)
