@@ -1,4 +1,3 @@
-mod Always
 mod Comparing
 mod RunLaws
 mod Showing

@@ -12,7 +12,8 @@ mod tests {
     // The worked example: fluent 0 is "in basin", 1 is "gate open"; action 0 goes in if the gate is open, action 1 senses fluent 0.
     const WORKED: [u8; 10] = [0x10, 0x88, 0x20, 0x00, 0x04, 0x86, 0x0c, 0x00, 0x02, 0x08];
 
-    // What bytes read as: how many fluents and actions, or a refusal's number and values, 0 for one that is not there.
+    // What bytes read as: how many fluents and actions, or a refusal's number and values, 0 for one that is not there: with options the
+    // expected values below would be longer and say no more.
     fn answer(bytes: &[u8]) -> Result<(u8, u8), (u8, u128, u128)> {
         match Domain::read(bytes) {
             Ok(domain) => Ok((domain.fluents(), domain.actions())),

@@ -13,7 +13,8 @@ mod tests {
     // The worked example: order 0, then look 1, with an end on either way.
     const WORKED: [u8; 3] = [0x14, 0x21, 0x00];
 
-    // What bytes read as: how many nodes and ends and how long a way, or a refusal's number and its place.
+    // What bytes read as: how many nodes and ends and how long a way, or a refusal's number and its place, 0 for one that is not there: with
+    // options the expected values below would be longer and say no more.
     fn answer(bytes: &[u8]) -> Result<(usize, usize, usize), (u8, u128)> {
         match Plan::read(bytes) {
             Ok(plan) => Ok((plan.nodes().len(), plan.ends(), plan.longest())),
@@ -34,7 +35,7 @@ mod tests {
         ((bits.min(1600) + 7) / 8).min(200) as usize
     }
 
-    // So many nodes of one tag and action 5.
+    // So many nodes of one tag and action 5, in the layout's own bits, so that what is read here is not what a record wrote.
     fn row(writer: &mut Writer, tag: u16, count: u8) -> Result<u128, TooShort> {
         for _ in 0..count {
             writer.put(tag, Width::TWO)?;

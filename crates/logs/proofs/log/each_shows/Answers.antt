@@ -4,16 +4,18 @@ use Rattle.logs.proofs.Comparing.{decided}
 use Rattle.logs.proofs.RunLaws.{compared}
 use Rattle.logs.proofs.log.each_shows.Goals as goal
 
-pub returns : goal.returns
-returns g c =
+pub returns-clause-decided : goal.returns-clause-decided
+returns-clause-decided g c =
     let one = c.args.one.now in
     let other = c.args.other.now in
     let m = g.R.Reasoner.mind one.reasoner in
     let n = g.S.Reasoner.mind other.reasoner in
-    let laws = g.R.Reasoner.laws one.reasoner in
-    let other_laws = g.S.Reasoner.laws other.reasoner in
-    record {
-      value = c.both_within.ensures;
-      decided = decided m n laws other_laws (state_of one) (state_of other) (askable one.domain one.state.orders one.state.told) (askable other.domain other.state.orders other.state.told) c.both_within.result c.both_within.ensures;
-      compared = compared m n laws other_laws (state_of one) (state_of other);
-    }
+    decided m n (g.R.Reasoner.laws one.reasoner) (g.S.Reasoner.laws other.reasoner) (state_of one) (state_of other) (askable one.domain one.state.orders one.state.told) (askable other.domain other.state.orders other.state.told) c.both_within.result c.both_within.ensures
+
+pub returns-clause-compared : goal.returns-clause-compared
+returns-clause-compared g c =
+    let one = c.args.one.now in
+    let other = c.args.other.now in
+    let m = g.R.Reasoner.mind one.reasoner in
+    let n = g.S.Reasoner.mind other.reasoner in
+    compared m n (g.R.Reasoner.laws one.reasoner) (g.S.Reasoner.laws other.reasoner) (state_of one) (state_of other)
