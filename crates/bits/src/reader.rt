@@ -82,7 +82,7 @@ impl<'a> Reader<'a> {
         number
     }
 
-    // The first place from here on that is not a zero bit of this byte.
+    // The first place from here on that is not a zero bit of this byte. A `for` that returns: `find` would name the end twice.
     fn fill_end(&self) -> u128
         ensures { result ≡ fill_end (bits_of self.now.bytes.now) self.now.place }
     {

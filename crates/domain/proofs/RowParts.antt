@@ -1,24 +1,14 @@
 -- The actions that rows hold, and what rows and whole sheets are written as. Assumes nothing.
-use Rattle.std.proofs.Common.{◌≡◌, ℕ, ◌+◌, ◌<◌, ◌≤◌, Bool, true, ◌&&◌, leb, List, ◌++◌, map, length, get_or, sym, ap, ◌∙◌, arith, length-append}
-use Rattle.std.proofs.lemmas.List.{length-map, get_or_past, get_or-map}
+use Rattle.std.proofs.Common.{◌≡◌, ℕ, ◌+◌, ◌≤◌, Bool, true, ◌&&◌, leb, List, ◌++◌, map, length, ap, ◌∙◌, arith, length-append}
 use Rattle.std.proofs.lemmas.Bool.{and_parts, leb-true}
 use Rattle.std.specs.List.{flat_map}
 use Rattle.bits.specs.Bits.{numeral}
 use Rattle.bits.proofs.Laws.{length-numeral, joined-map}
-use Rattle.domain.specs.Accessors.{no_action}
 use Rattle.domain.specs.Layout.{action_bits, domain_bits}
 use Rattle.domain.specs.Lists.{listed, list_bits}
 use Rattle.domain.specs.Rows.{action_in}
 use Rattle.domain.specs.Sheet.{Action, Sheet, each, lawful}
 use Rattle.domain.specs.declared.action.Row.{Row}
-
--- the action at an index, and at one past the last
-pub action_there : (rows : List Row) (i a : ℕ) (d : Row) → i ≡ a → i < length rows → action_in (get_or rows i d) ≡ get_or (map action_in rows) a no_action
-action_there rows i a d same inside =
-    sym (ap (λ k. get_or (map action_in rows) k no_action) (sym same) ∙ get_or-map action_in rows i d no_action inside)
-
-pub action_past : (rows : List Row) (i a : ℕ) → i ≡ a → length rows ≤ i → no_action ≡ get_or (map action_in rows) a no_action
-action_past rows i a same past = sym (get_or_past (map action_in rows) a no_action (omega (arith, length-map rows action_in)))
 
 -- what the action of a row is written as
 abbrev pub row_bits : Row → List Bool

@@ -77,7 +77,8 @@ fn facts(reader: &mut Reader, fluents: u8, actions: u8) -> Result<(Parts, u128),
     Ok((parts, next))
 }
 
-// So many groups.
+// So many groups. This loop, that of actions and that of effects take different things along (nothing, a number, a least literal): one
+// function over a closure would have to carry that in the closure's contract.
 fn groups(
     reader: &mut Reader,
     fluents: u8,
@@ -95,7 +96,7 @@ fn groups(
     Ok((groups, reader.place()))
 }
 
-// A count of groups and the groups.
+// A count of groups and the groups; `counted` is the same of effects, and what both share is one line.
 fn all_groups(reader: &mut Reader, fluents: u8) -> Result<(FixedList<LiteralSet, 8>, u128), Refusal>
     ensures value { holds items_of result ≡ all_groups_at (bits_of reader.old.bytes.now) fluents reader.old.place }
     ensures moved { Onward result reader.old reader.new }

@@ -86,7 +86,7 @@ fn put_facts(writer: &mut Writer, domain: &Domain) -> Result<(), TooShort>
     put_list(writer, Width::FOUR, domain.parts.weak)
 }
 
-// A count of groups, and the groups.
+// A count of groups, and the groups; `put_working` is the same of effects, which are packed by the trait.
 fn put_groups(writer: &mut Writer, groups: &FixedList<LiteralSet, 8>) -> Result<(), TooShort>
     ensures { Wrote (is_ok result) (numeral 4 (length (items_of groups.now)) ++ flat_map (list_bits 4) (items_of groups.now)) writer.old writer.new }
 {

@@ -40,7 +40,7 @@ fn is_open(facts: LiteralSet, effect: &Effect) -> bool
     effect.conditions & opposites(facts) == 0
 }
 
-// The literal of an effect, if it is open.
+// The literal of an effect, if it is open; `caused` tests for another thing, and both share only this `if`.
 fn coming(facts: LiteralSet, effect: &Effect) -> LiteralSet
     ensures { result ≡ (if is_open facts effect.now then single effect.now.literal else 0) }
 {

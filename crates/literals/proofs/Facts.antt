@@ -1,10 +1,10 @@
 -- The facts that tables show, and which tables are full or the same. Assumes nothing.
-use Rattle.std.proofs.Common.{◌≡◌, ℕ, zero, suc, ◌+◌, ◌-◌, ◌^◌, ◌<◌, ◌≤◌, Bool, true, false, cond, ◌&&◌, ◌||◌, eqb, nat_eq, ltb, List, [], ◌∷◌, length, get_or, take, set, replicate, Decides, sym, refl, ap, ◌∙◌, ⊎_elim, arith, length-append, length-take}
+use Rattle.std.proofs.Common.{◌≡◌, ℕ, zero, suc, ◌-◌, ◌^◌, ◌<◌, ◌≤◌, Bool, true, false, cond, ◌&&◌, ◌||◌, eqb, nat_eq, ltb, List, [], ◌∷◌, length, get_or, take, set, replicate, Decides, sym, refl, ap, ◌∙◌, ⊎_elim, arith, length-append, length-take}
 use lib.Bits.{bit_and}
 use lib.Pointwise.{pointwise}
 use Rattle.std.specs.List.{list_all}
 use Rattle.std.proofs.lemmas.Slice.Eq.{compares_Decides}
-use Rattle.std.proofs.lemmas.List.{length-replicate, get_or-replicate, get_or_append_left, get_or-append_right, get_or_past, get_or-set_same, get_or-set_other, get_or-take, set_past, set-append_right, replicate_more, append_assoc, ext_get_or}
+use Rattle.std.proofs.lemmas.List.{length-replicate, get_or-replicate, get_or_append_left, get_or-append_right, get_or_past, get_or-set_same, get_or-set_other, get_or-take, set_past, ext_get_or}
 use Rattle.std.proofs.lemmas.Bool.{cases_lt, cases_eq, cond_both, and_parts, and_from, eq-eqb, ne_eqb, ltb-true, lt-ltb}
 use Rattle.std.proofs.lemmas.Bool.Decides.{nat_tests}
 use Rattle.literals.specs.Literals.{fluent, has, with, covers, all}
@@ -34,16 +34,6 @@ filled_at n s t =
     let outside : ltb t n ≡ false = grind (arith, nat_tests) in
     rw outside (get_or-append_right (replicate n s) (replicate (33 - n) 0) n t 0 long h ∙ zeros_at (33 - n) (t - n)))
     (cases_lt t n)
-
--- the table filled one moment further
-pub filled_more : (n s : ℕ) → n < 33 → set (filled n s) n s ≡ filled (n + 1) s
-unfolding filled
-filled_more n s h =
-    let left : 33 - n ≡ suc (32 - n) = omega arith in
-    let less : 33 - (n + 1) ≡ 32 - n = omega arith in
-    let here : n - n ≡ 0 = omega arith in
-    set-append_right (replicate n s) (replicate (33 - n) 0) n n s (length-replicate n s) (omega arith)
-    ∙ rw (here, left, less, ← replicate_more n s, append_assoc (replicate n s) (s ∷ []) (replicate (32 - n) 0)) refl
 
 pub filled_sets : (n s : ℕ) → s < 2 ^ 64 → AreSets (filled n s)
 filled_sets n s small t = rw (filled_at n s t) (cond_both (ltb t n) s 0 (λ x. x < 2 ^ 64) (λ _. small) (λ _. omega arith))
@@ -199,19 +189,6 @@ common_sets xs ys long small t = rw (common_at xs ys long t) (and_below (get_or 
 -- a table that has the sets of both up to a moment, and those of the first from there on
 abbrev pub Shared : List ℕ → List ℕ → ℕ → List ℕ → Type 0
 Shared xs ys n sets = (t : ℕ) → get_or sets t 0 ≡ cond (ltb t n) (bit_and (get_or xs t 0) (get_or ys t 0)) (get_or xs t 0)
-
-pub shared_none : (xs ys : List ℕ) → Shared xs ys 0 xs
-shared_none xs ys t = let none : ltb t 0 ≡ false = grind (arith, nat_tests) in rw none refl
-
-pub shared_more : (xs ys : List ℕ) (n : ℕ) (sets next : List ℕ) → n < length sets → Shared xs ys n sets → next ≡ set sets n (bit_and (get_or xs n 0) (get_or ys n 0)) → Shared xs ys (n + 1) next
-shared_more xs ys n sets next inside so_far is t =
-    ap (λ l. get_or l t 0) is
-    ∙ ⊎_elim
-    (λ (here : t ≡ n). let past : ltb t (n + 1) ≡ true = grind (arith, nat_tests) in rw (past, here) (get_or-set_same sets n _ 0 inside))
-    (λ (differs : t ≡ n → ⊥).
-    let as_before : ltb t n ≡ ltb t (n + 1) = grind (arith, nat_tests) in
-    get_or-set_other sets n t _ 0 differs ∙ so_far t ∙ ap (λ b. cond b (bit_and (get_or xs t 0) (get_or ys t 0)) (get_or xs t 0)) as_before)
-    (cases_eq t n)
 
 pub shared_all : (xs ys : List ℕ) (n : ℕ) (sets : List ℕ) → length xs ≡ length ys → length sets ≡ length xs → length xs ≤ n → Shared xs ys n sets → sets ≡ common xs ys
 shared_all xs ys n sets long same_length all so_far =

@@ -66,10 +66,10 @@ pub fn lowest(set: LiteralSet) -> Option<Literal>
 pub fn all(fluents: u8) -> LiteralSet
     ensures { result ≡ all fluents }
 {
-    of_first(if fluents < 32 { fluents } else { 32 })
+    of_first(fluents.min(32))
 }
 
-// The bit of a literal; a number past the literals is past the bits.
+// The bit of a literal; a number past the literals is past the bits, by which the functions that shift by it know it, as the definitions do.
 fn place(literal: Literal) -> u8
     ensures { result ≡ place literal }
 {

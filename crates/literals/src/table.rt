@@ -92,7 +92,7 @@ fn filled(count: usize, literals: LiteralSet) -> Table
 fn moments(last: usize) -> usize
     ensures { result ≡ moments last }
 {
-    if last < 32 { last + 1 } else { 33 }
+    last.min(32) + 1
 }
 
 // Whether the part is in each set.

@@ -26,7 +26,7 @@ pub struct Log<R> {
     state: State,
 }
 
-// A log that was not opened: why, and the reasoner handed back.
+// A log that was not opened: why, and the reasoner handed back. Not one type with a refused answer: a slip is no `Copy`.
 #[derive(Clone, Copy)]
 pub struct NotOpened<R> {
     pub refusal: Refusal,

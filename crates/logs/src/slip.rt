@@ -8,7 +8,7 @@ use crate::refusal::Refusal;
 use reasoner::reasoner::Reasoner;
 
 // A look that is owed: its action and its moment. A slip must be answered or lost: its drop asks for a moment past the last at which
-// a log looks, so nobody can let go a slip that a look handed out. A call spends it first and hands its two numbers on: a slip that were
+// a log looks, so nobody can let go a slip that a look handed out. A call spends it first and hands its two numbers on: a slip that is
 // lent to the log would have to be spent after each outcome.
 pub struct Slip {
     action: u8,

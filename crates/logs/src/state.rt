@@ -7,7 +7,7 @@ use lists::slices::put;
 use literals::orders::Orders;
 use literals::table::Table;
 
-// Of each moment, whether the look there is owed.
+// Of each moment, whether the look there is owed. It lies apart from the orders, since those alone are lent to a reasoner.
 #[derive(Clone, Copy)]
 pub(crate) struct Owed {
     moments: [bool; 32],

@@ -114,7 +114,7 @@ impl fmt::Display for Sheet<'_> {
     }
 }
 
-// The goals: what every end must know, and what some end must know.
+// The goals: what every end must know, and what some end must know. A type of its own, as each type is printed one way.
 #[derive(Clone, Copy)]
 struct Goals<'a> {
     domain: &'a Domain,

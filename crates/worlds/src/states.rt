@@ -9,7 +9,7 @@ use domain::record::Domain;
 use literals::set::{LiteralSet, covers, opposites, without};
 use reasoner::effects::caused;
 
-// The literals of the effects that fire.
+// The literals of the effects that fire. With the open effects of the history reasoner this shares one line.
 fn firing(effects: &[Effect], state: LiteralSet) -> LiteralSet
     ensures { result ≡ firing effects.now state }
 {

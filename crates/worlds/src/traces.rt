@@ -43,7 +43,8 @@ fn agrees(question: &Question, state: LiteralSet, states: &Table) -> bool
     is_world(question.domain, state) && tells_true(question, states)
 }
 
-// Only the facts of the world that starts in a state, if it agrees.
+// Only the facts of the world that starts in a state, if it agrees. The question stays and the state is another at each call, so they are
+// two.
 fn narrow(question: &Question, state: LiteralSet, table: &mut Table)
     ensures { table.new.sets ≡ narrowed (asked question.now) state table.old.sets }
 {
