@@ -13,7 +13,7 @@ pub(crate) fn left_over(set: LiteralSet, known: LiteralSet) -> LiteralSet
     let left = without(set, known);
     match left.count_ones() {
         0 => set,
-        1 => left,
+        1 => 1 << left.trailing_zeros(),
         _ => 0,
     }
 }

@@ -40,13 +40,11 @@ impl Slip {
         ensures left { Leaves (if is_ok result then answered (state_of log.old) self.action self.moment seen else state_of log.old) log.old log.new }
     {
         let Slip { action, moment } = self;
-        match log.answer(action, moment, seen) {
-            Ok(()) => Ok(()),
-            Err(refusal) => Err(NotAnswered {
+        log.answer(action, moment, seen)
+            .map_err(|refusal| NotAnswered {
                 refusal,
                 slip: Slip { action, moment },
-            }),
-        }
+            })
     }
 
     // Nothing was seen. The slip is ended in every case.

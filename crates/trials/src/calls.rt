@@ -27,10 +27,7 @@ mod tests {
         let Ok(domain) = Domain::read(&WORKED) else {
             return Err(Fail::new("no domain"));
         };
-        match Log::open(&domain, reasoner) {
-            Ok(log) => Ok(log),
-            Err(_) => Err(Fail::new("not opened")),
-        }
+        Log::open(&domain, reasoner).map_err(|_| Fail::new("not opened"))
     }
 
     // A slip answered, and lost where its answer is refused; the refusal's number.

@@ -64,10 +64,10 @@ mod tests {
             told.tell(fact.0, fact.1);
         }
         let mut table = Table::empty();
-        match reasoner.ask(&domain, &orders, &told, &mut table) {
-            Ok(()) => Ok(table),
-            Err(_) => Err(Fail::new("too many fluents")),
-        }
+        reasoner
+            .ask(&domain, &orders, &told, &mut table)
+            .map_err(|_| Fail::new("too many fluents"))?;
+        Ok(table)
     }
 
     // Whether a fluent is known true or known false at a moment, or neither, by the literal that says it is true.
