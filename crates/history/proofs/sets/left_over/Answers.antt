@@ -1,5 +1,5 @@
 use Rattle.std.proofs.Common.{rules}
-use Rattle.literals.proofs.Laws.{ones_power}
+use Rattle.literals.proofs.Laws.{ones_place, ones_power}
 use Rattle.knowledge.specs.Sweeps.{left_over}
 use Rattle.history.proofs.sets.left_over.Goals as goal
 
@@ -14,3 +14,6 @@ returns-in-1 c = search (rules, ones_power)
 pub returns-in_default : goal.returns-in_default
 unfolding left_over
 returns-in_default c = search rules
+
+pub overflow_shl-result : goal.overflow_shl-result
+overflow_shl-result c = search (rules, ones_place)
