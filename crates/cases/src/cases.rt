@@ -28,7 +28,7 @@ const GATES: &[u8] = &[
 const PAIRS: &[u8] = &[0x10, 0x80, 0x04, 0x40, 0x86, 0x40, 0x84, 0x00, 0x00];
 
 // The cases, by number.
-const CASES: [Case; 9] = [
+const CASES: &[Case; 9] = &[
     Case {
         domain: WORKED,
         orders: &[0, 1],

@@ -1,11 +1,13 @@
 -- Steps of the loops over literals: those that are read, and the members of a set. Assumes nothing.
-use Rattle.std.proofs.Common.{◌≡◌, ℕ, zero, suc, ◌+◌, ◌-◌, ◌*◌, ◌/◌, ◌<◌, ◌≤◌, Bool, true, false, cond, List, [], ◌∷◌, ◌++◌, length, filter, Ok, Err, sym, refl, ap, ◌∙◌, ⊎_elim, append_assoc, append-nil, arith, length-append}
+use Rattle.std.proofs.Common.{◌≡◌, ℕ, zero, suc, ◌+◌, ◌-◌, ◌*◌, ◌/◌, ◌^◌, ◌<◌, ◌≤◌, Bool, true, false, cond, List, [], ◌∷◌, ◌++◌, length, filter, Ok, Err, sym, refl, ap, ◌∙◌, ⊎_elim, append_assoc, append-nil, arith, length-append}
 use Rattle.std.proofs.lemmas.Bool.{cases_Bool}
+use lib.Count.{ones}
 use Rattle.std.specs.List.{flat_map, range_with_len}
 use Rattle.bits.specs.Bits.{numeral}
 use Rattle.bits.specs.Fields.{followed}
 use Rattle.bits.proofs.Laws.{length-numeral, joined-append}
 use Rattle.literals.specs.Literals.{has, with}
+use Rattle.literals.proofs.Laws.{ones_members}
 use Rattle.domain.specs.Lists.{count_at, literal_at, literals_at, list_at, members_from, members}
 use Rattle.domain.specs.declared.refusal.Refusal.{Refusal}
 
@@ -78,6 +80,11 @@ filter-has s zero k = refl
 filter-has s (suc n) k =
     let next : k + 1 ≡ suc k = omega arith in
     ap (λ ls. cond (has s k) (k ∷ ls) ls) (ap (λ m. filter (has s) (range_with_len m n)) next ∙ filter-has s n (suc k))
+
+-- a set has as many members as its number has digits 1
+pub count_members : (s : ℕ) → s < 2 ^ 64 → ones s ≡ length (members s)
+unfolding members
+count_members s small = ones_members s small ∙ ap length (filter-has s 64 0)
 
 -- ---- members as bits
 

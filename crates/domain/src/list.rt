@@ -140,11 +140,12 @@ pub(crate) fn list_len(width: Width, set: LiteralSet) -> usize
 }
 
 // How many members a set has.
+#[tactic(auto, using(crate::proofs::ListSteps::count_members))]
 pub(crate) fn members(set: LiteralSet) -> u8
     ensures value { result ≡ length (members set) }
     ensures few { result ≤ 64 }
 {
-    (0..64).filter(|literal| contains(set, *literal)).count() as u8
+    set.count_ones() as u8
 }
 
 // The members of a set in rising sequence. The literals are gone through, and not a filter of them: by a literal the proof says which

@@ -5,8 +5,11 @@ use Rattle.std.proofs.lemmas.Bool.Decides.{nat_tests}
 use Rattle.lists.specs.Lists.{items_of}
 use Rattle.lists.specs.declared.fixed_list.FixedList.{FixedList}
 
+pub items_long : {T : Type 0} {N : ℕ} → (l : FixedList T N) → length (items_of l) ≡ l.count
+items_long l = length-take-le l.count l.table (omega (arith, l.few, l.long))
+
 pub items_few : {T : Type 0} {N : ℕ} → (l : FixedList T N) → length (items_of l) ≤ N
-items_few l = omega (arith, length-take-le l.count l.table (omega (arith, l.few, l.long)), l.few)
+items_few l = omega (arith, items_long l, l.few)
 
 -- what a push answers and leaves, where there was room
 pub pushed : {T : Type 0} {later : List T} {room : Bool} (before : List T) (most : ℕ) (item : T) → room ≡ ltb (length before) most → later ≡ cond room (before ++ item ∷ []) before → length before < most → later ≡ before ++ item ∷ []

@@ -11,7 +11,9 @@ pub use Rattle.literals.proofs.Members.{and_below, or_below, without_below, sing
 pub use Rattle.literals.proofs.Members.{same-members, no_members, covers-has, has-covers, covers_le, or_le, or_assoc, or-empty, or_none}
 -- the lowest member
 pub use Rattle.literals.proofs.Members.{Lowest, lowest_none, none_lowest, lowest_some, some_lowest}
--- how many members a set has, where that is none or one
+-- how many members a set has
+pub use Rattle.literals.proofs.Counting.{ones_members}
+-- and where that is none or one
 pub use Rattle.literals.proofs.Members.{ones_none, ones_empty, ones_power, ones_place, ones_one, ones_literal, ones_has, ones_single, has_ones}
 -- the sets of a table
 pub use Rattle.literals.proofs.Facts.{length-empty, empty_sets, length-full, full_sets, put_sets, told_sets}

@@ -1,3 +1,4 @@
+mod Counting
 mod Digits
 mod Facts
 pub mod Laws

@@ -8,7 +8,7 @@ use Rattle.std.proofs.lemmas.Bool.Decides.{nat_tests}
 use Rattle.std.specs.Bool.{then_some}
 use mir.Val.{bool_byte}
 use Rattle.literals.specs.Literals.{bit, place, has, of_first, first, lowest}
-use Rattle.literals.proofs.Digits.{digit_or, bit_shr, trailing_below, trailing_at}
+use Rattle.literals.proofs.Digits.{digit_or, bit_past, bit_shr, trailing_below, trailing_at}
 use Rattle.literals.proofs.Members.{has_at, first_is}
 
 -- the digit at a place, by a shift
@@ -94,15 +94,31 @@ module _ (s : ℕ) where
       let small : ltb (2 * lowest-fluent s + 1) 64 ≡ true = grind (arith, nat_tests) in
       rw (← first_odd h other, small) refl
 
+-- a word has a member of no fluent past the first 32
+pub fluent_few : (s : ℕ) → s < 2 ^ 64 → lowest-fluent s < 64 → lowest-fluent s < 32
+fluent_few s small inside =
+    let f = lowest-fluent s in
+    ⊎_elim
+    (λ (h : f < 32). h)
+    (λ (h : 32 ≤ f).
+    let back : 32 + (f - 32) ≡ f = omega arith in
+    let some : bit (either s) f ≡ true = trailing_at 64 (either s) inside in
+    let member : bit s f ≡ true = left_true (bit s f) (bit s (32 + f)) (sym (either_digit s f) ∙ some) (bit_past 64 s (32 + f) small (omega arith)) in
+    let none : bit (either s) (f - 32) ≡ false = trailing_below 64 (either s) (f - 32) (omega arith) in
+    let apart = or_parts (bit s (f - 32)) (bit s (32 + (f - 32))) (sym (either_digit s (f - 32)) ∙ none) in
+    absurd (both_ways (bit s f) (rw back at apart.1) member))
+    (cases_lt f 32)
+
 -- the literal of the lowest fluent that is a member, where there is such a fluent
-pub then_lowest : (s odd : ℕ) (member : Bool) (r : Option ℕ) → r ≡ then_some (ltb (lowest-fluent s) 32) (2 * lowest-fluent s + odd) → odd ≡ bool_byte (not member) → member ≡ has s (2 * lowest-fluent s) → r ≡ lowest s
-then_lowest s odd member r told digit e =
-    told
-    ∙ ⊎_elim
-    (λ (h : lowest-fluent s < 32). let inside : ltb (lowest-fluent s) 32 ≡ true = grind (arith, nat_tests) in rw (inside, digit) (either_lowest s member h (sym e)))
-    (λ (h : 32 ≤ lowest-fluent s). let outside : ltb (lowest-fluent s) 32 ≡ false = grind (arith, nat_tests) in rw outside (lowest_none s h))
-    (cases_lt (lowest-fluent s) 32)
+pub then_lowest : (s odd : ℕ) (member inside : Bool) (r : Option ℕ) → r ≡ then_some inside (2 * lowest-fluent s + odd)
+    → (inside ≡ true → lowest-fluent s < 32)
+    → (inside ≡ false → 32 ≤ lowest-fluent s)
+    → odd ≡ bool_byte (not member)
+    → member ≡ has s (2 * lowest-fluent s)
+    → r ≡ lowest s
+then_lowest s odd member true r told some none digit e = told ∙ rw digit (either_lowest s member (some refl) (sym e))
   where
     either_lowest : (s : ℕ) (member : Bool) → lowest-fluent s < 32 → has s (2 * lowest-fluent s) ≡ member → Some (2 * lowest-fluent s + bool_byte (not member)) ≡ lowest s
     either_lowest s true h e = let same : 2 * lowest-fluent s + 0 ≡ 2 * lowest-fluent s = omega arith in rw same (lowest_even s h e)
     either_lowest s false h e = lowest_odd s h e
+then_lowest s odd member false r told some none digit e = told ∙ lowest_none s (none refl)

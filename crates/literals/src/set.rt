@@ -53,7 +53,6 @@ pub fn covers(set: LiteralSet, part: LiteralSet) -> bool
 }
 
 // The member with the lowest number. Its fluent is the lowest of which either literal is a member.
-#[tactic(auto, using(crate::proofs::Words::then_lowest))]
 pub fn lowest(set: LiteralSet) -> Option<Literal>
     ensures { result ≡ lowest set }
 {

@@ -1,7 +1,7 @@
 // Domain sheets as text.
 use domain::action::Effect;
 use domain::record::Domain;
-use literals::set::{Literal, LiteralSet, contains};
+use literals::set::{Literal, LiteralSet, contains, lowest, with, without};
 use std::fmt;
 use std::fmt::Formatter;
 
@@ -29,12 +29,12 @@ struct SetText {
 
 impl fmt::Display for SetText {
     fn fmt<W: fmt::Write>(&self, f: &mut Formatter<W>) -> fmt::Result {
-        let mut members = (0..64).filter(|literal| contains(self.set, *literal));
-        let Some(literal) = members.next() else {
+        let Some(first) = lowest(self.set) else {
             return f.write_str("none");
         };
-        write!(f, "{}", LiteralText { literal })?;
-        for literal in members {
+        write!(f, "{}", LiteralText { literal: first })?;
+        let others = without(self.set, with(0, first));
+        for literal in (0..64).filter(|literal| contains(others, *literal)) {
             write!(f, ", {}", LiteralText { literal })?;
         }
         Ok(())

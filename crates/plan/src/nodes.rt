@@ -1,6 +1,6 @@
 ghost use Rattle.std.specs.Prelude.{◌≡◌, ◌+◌, ◌≤◌, List, ◌++◌, length};
 ghost use Rattle.plan.specs.Plans.{plan_tree};
-ghost use Rattle.plan.specs.Tree.{Tree, nodes_of, depth, ends as tree_ends};
+ghost use Rattle.plan.specs.Tree.{Tree, nodes_of, depth, size, ends as tree_ends};
 ghost use Rattle.plan.specs.declared.node.Node.{Node as PlanNode};
 
 use crate::node::Node;
@@ -47,24 +47,25 @@ fn longest_of(nodes: &[Node]) -> usize
     longest
 }
 
-// The longest way of the plan that nodes begin with, and the nodes after that plan.
-fn longest_first(nodes: &[Node]) -> (usize, &[Node])
-    ensures spelled { (t : Tree) (rest : List PlanNode) → nodes.now ≡ nodes_of t ++ rest → (result.0 ≡ depth t) × (result.1.now ≡ rest) }
-    ensures few { result.0 + length result.1.now ≤ length nodes.now }
+// The longest way of the plan that nodes begin with, and how many nodes that plan has.
+fn longest_first(nodes: &[Node]) -> (usize, usize)
+    ensures spelled { (t : Tree) (rest : List PlanNode) → nodes.now ≡ nodes_of t ++ rest → (result.0 ≡ depth t) × (result.1 ≡ size t) }
+    ensures short { result.0 ≤ result.1 }
+    ensures few { result.1 ≤ length nodes.now }
 {
     let Some((first, rest)) = nodes.split_first() else {
-        return (0, nodes);
+        return (0, 0);
     };
     match first {
-        Node::End => (0, rest),
+        Node::End => (0, 1),
         Node::Order { .. } => {
-            let (longest, after) = longest_first(rest);
-            (longest + 1, after)
+            let (longest, taken) = longest_first(rest);
+            (longest + 1, taken + 1)
         }
         Node::Look { .. } => {
-            let (yes, middle) = longest_first(rest);
-            let (no, after) = longest_first(middle);
-            (yes.max(no) + 1, after)
+            let (yes, taken) = longest_first(rest);
+            let (no, more) = longest_first(&rest[taken..]);
+            (yes.max(no) + 1, taken + more + 1)
         }
     }
 }
